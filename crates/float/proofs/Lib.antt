@@ -1,0 +1,16 @@
+pub mod Bits
+pub mod Signed
+pub mod Order
+pub mod Ranks
+pub mod Keys
+pub mod Words
+pub mod Extremes
+pub mod IntegerRoots
+pub mod Widths
+pub mod Units
+pub mod Rounded
+pub mod Grid
+pub mod Nearest
+pub mod Sums
+pub mod Signs
+pub mod Closed

@@ -1,0 +1,4 @@
+pub mod Loops
+pub mod Points
+pub mod Lists
+pub mod Ties
