@@ -5,7 +5,6 @@ use lib.Ieee.{Float, nan, inf, fin, binary64, lt, isNan, fits}
 use lib.Ieee.Fits.{add-fits, sub-fits, mul-fits, div-fits, neg-fits, cond-fits}
 use Rattle.float.specs.Binary64.{F64}
 use Rattle.float.specs.Values.{signumOf, maxOf, minOf}
-use Rattle.float.specs.Roots.{differenceFactor}
 use Rattle.float.specs.Sqrt.{sqrtOf}
 use Rattle.float.specs.Laws.{Closed}
 use Rattle.float.proofs.Bits.{abs-fits}

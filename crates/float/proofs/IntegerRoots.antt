@@ -1,7 +1,7 @@
 -- Integer roots, a digit a turn: what the loop of `integer_root` has after i turns, and that the definition `isqrt` is one. Assumes nothing.
-use mathlib.Core.Path.{_≡_, refl, sym, ap, _∙_, subst}
+use mathlib.Core.Path.{_≡_, sym, ap, _∙_, subst}
 use Prim.Native.Nat.{ℕ, zero, suc, _+_, _-_, _*_, _/_, _%_, _^_, _≤_, _<_, zero-le}
-use native.Mathlib.Nat.{lt-of-lt-of-le, le-antisymm, le-of-suc-le-suc, lt-of-not-le, mul-comm, mul-assoc, mul-one, one-mul, mul-add, add-mul, mul-mul-mul-comm, mul-le-mul, div-lt-iff-lt-mul, pow-suc, pow-succ'}
+use native.Mathlib.Nat.{lt-of-lt-of-le, le-antisymm, le-of-suc-le-suc, lt-of-not-le, mul-assoc, mul-one, one-mul, mul-add, add-mul, mul-mul-mul-comm, mul-le-mul, div-lt-iff-lt-mul, pow-suc}
 use native.Mathlib.Numerals.{add-one}
 use native.Mathlib.Omega.{arith}
 use mathlib.Core.Bool.{Bool, true, false, not, cond}

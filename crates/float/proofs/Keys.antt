@@ -1,20 +1,20 @@
 -- Keys compared as i64 decide IEEE 754's total order: `keys-decide`. Assumes nothing.
 use mathlib.Core.Path.{_≡_, refl, sym, ap, ap₂, _∙_, subst}
 use mathlib.Core.Logic.{_⊎_, inl, inr}
-use Prim.Native.Nat.{ℕ, _+_, _-_, _^_, _≤_, _<_}
+use Prim.Native.Nat.{ℕ, _+_, _-_, _^_, _≤_}
 use native.Mathlib.Omega.{arith}
 use mathlib.Core.Bool.{Bool, true, false, not, _||_, cond, true≢false}
-use lib.IntN.{ℤ, pos, negsuc, pos-ne-negsuc}
+use lib.IntN.{ℤ, pos, pos-ne-negsuc}
 use lib.Dec.{T, ltb, T-not, not-T}
 use lib.Signed.{ltZ}
 use lib.Ieee.{Float, nan, inf, fin, binary64, below, lt, eq, le, isNan, toBits}
 use lib.Ieee.Bits.{is-true, is-false}
-use borrow.Author.Tests.{lt-ltb, le-ltb, ltb-true, ltb-false}
+use borrow.Author.Tests.{lt-ltb, le-ltb, ltb-true}
 use Rattle.float.specs.Binary64.{F64, Number, negative, plusZero, minusZero}
 use Rattle.float.specs.Values.{absOf}
 use Rattle.float.specs.Order.{totalOrder, precedesOf, keyed, keyOf, KeysDecide}
 use Rattle.float.proofs.Bits.{parted, abs-most}
-use Rattle.float.proofs.Order.{by-test, lt→le, lt-not-le, not-lt→le, lt-number-l, lt-number-r}
+use Rattle.float.proofs.Order.{lt→le, lt-not-le, not-lt→le, lt-number-l, lt-number-r}
 use Rattle.float.proofs.Ranks.{one-value, below-parts}
 
 pub key-parts : (x : Float) → Number x → keyOf x ≡ keyed (negative x) (toBits binary64 (absOf x))

@@ -4,7 +4,6 @@ pub mod Order
 pub mod Ranks
 pub mod Keys
 pub mod Words
-pub mod Extremes
 pub mod IntegerRoots
 pub mod Widths
 pub mod Units

@@ -1,15 +1,15 @@
 -- `sqrtOf` is IEEE 754's square root, and the difference factor is the cube root that 01 names; no other value is: `roots`. Assumes nothing.
 use mathlib.Core.Path.{_≡_, refl, sym, ap, _∙_, subst}
 use Prim.Native.Nat.{ℕ, zero, suc, _+_, _-_, _*_, _/_, _%_, _^_, _≤_, _<_}
-use native.Mathlib.Nat.{le-trans, le-of-eq, le-of-lt, lt-of-le-of-lt, lt-of-lt-of-le, lt-of-not-le, lt-irrefl, lt-trans, mul-assoc, mul-comm, mul-pos, mul-mul-mul-comm, mul-le-mul-right, mul-lt-mul-of-pos-right, pow-suc, pow-zero, pow-le-pow-left, pow-lt-pow-left, one-mul, add-comm, eq-or-lt-of-le, eq-zero-or-pos}
+use native.Mathlib.Nat.{le-trans, le-of-eq, lt-of-le-of-lt, lt-of-lt-of-le, lt-of-not-le, lt-irrefl, lt-trans, mul-assoc, mul-comm, mul-pos, mul-mul-mul-comm, mul-le-mul-right, mul-lt-mul-of-pos-right, pow-suc, pow-zero, pow-le-pow-left, pow-lt-pow-left, one-mul, add-comm, eq-zero-or-pos}
 use native.Mathlib.Decide.{decLe, ℕ-discrete}
 use native.Mathlib.Omega.{arith}
-use mathlib.Core.Bool.{Bool, true, false, not}
+use mathlib.Core.Bool.{true, false}
 use mathlib.Core.Logic.{inl, inr}
-use lib.IntN.{ℤ, pos, negsuc}
+use lib.IntN.{ℤ, negsuc}
 use lib.Dec.{T, lit<, lit≤}
 use lib.Pow.{pow-pos, pow-add}
-use lib.Ieee.{Float, nan, inf, fin, binary64, odd, fits, isNan, toBits}
+use lib.Ieee.{Float, nan, inf, fin, binary64, odd, fits, toBits}
 use lib.Ieee.Exact.{odd-sign}
 use lib.Ieee.Positive.{positive, positive-of-value}
 use lib.Ieee.Bits.{ofBits-fits}
@@ -22,8 +22,8 @@ use Rattle.float.proofs.Ranks.{placed, bits-are, one-value}
 use Rattle.float.proofs.IntegerRoots.{next-square, twice-square}
 use Rattle.float.proofs.Widths.{made, full-low, full-high}
 use Rattle.float.proofs.Units.{units-of, units-odd}
-use Rattle.float.proofs.Rounded.{square, digits, radicand, scaled, own-root, whole, r-low, r-high, made-bits, as-odd, result-is}
-use Rattle.float.proofs.Grid.{OnGrid, sum-below, nearest}
+use Rattle.float.proofs.Rounded.{square, digits, radicand, scaled, own-root, whole, r-low, made-bits, as-odd, result-is}
+use Rattle.float.proofs.Grid.{sum-below, nearest}
 
 pow-two : (a : ℕ) → a ^ 2 ≡ a * a
 pow-two a = pow-suc a 1 ∙ ap (λ (x : ℕ). x * a) (pow-suc a 0 ∙ ap (λ (x : ℕ). x * a) (pow-zero a) ∙ one-mul a)

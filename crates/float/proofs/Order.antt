@@ -1,10 +1,10 @@
 -- `lt` and `le` of lib.Ieee order the values that are no NaN: `order-laws`. Assumes nothing.
-use mathlib.Core.Path.{_≡_, refl, sym, subst}
+use mathlib.Core.Path.{_≡_, refl}
 use mathlib.Core.Logic.{_⊎_, inl, inr}
 use Prim.Native.Nat.{ℕ, _*_}
 use mathlib.Core.Bool.{Bool, true, false, not, _||_}
 use lib.IntN.{ℤ}
-use lib.Dec.{T, T-not, not-T}
+use lib.Dec.{T, not-T}
 use lib.Ieee.{Float, nan, inf, fin, up, down, lt, le, neg, isNan}
 use lib.Ieee.Fits.{down-pos}
 use Rattle.float.specs.Binary64.{Number, NotAbove}

@@ -5,22 +5,22 @@ use Prim.Native.Nat.{ℕ, zero, suc, _+_, _-_, _*_, _/_, _^_, _≤_, _<_}
 use native.Mathlib.Nat.{le-trans, le-of-eq, lt-of-le-of-lt, eq-or-lt-of-le, mul-right-comm, mul-le-mul-right, mul-pos, zero-mul, zero-div, le-div-iff-mul-le, zero-add, eq-zero-or-pos}
 use native.Mathlib.Omega.{arith}
 use mathlib.Core.Bool.{Bool, true, false, not, _&&_}
-use lib.IntN.{ℤ, pos}
-use lib.Dec.{T, ltb, leb·suc-suc, lt→ltb, ltb→lt}
+use lib.IntN.{ℤ}
+use lib.Dec.{T, ltb, leb·suc-suc, lt→ltb}
 use lib.Signed.{ltZ}
 use lib.Pow.{pow-pos, pow-add, shr-mono}
-use lib.Ieee.{Float, nan, inf, fin, binary64, up, down, size, below, lt, le, isNan, toBits}
+use lib.Ieee.{Float, nan, inf, fin, binary64, up, down, size, below, lt, isNan, toBits}
 use lib.Ieee.Digits.{size-lt, size-le, size-reaches}
 use lib.Ieee.Fits.{kept-lt, up-pos, down-pos}
 use lib.Ieee.Nearest.{div-mono}
-use lib.Ieee.Bits.{ofBits-toBits, is-true}
+use lib.Ieee.Bits.{ofBits-toBits}
 use borrow.Author.Tests.{lt-ltb, le-ltb, ltb-true, ltb-false}
 use Rattle.float.specs.Binary64.{F64, Number, negative, bits}
 use Rattle.float.specs.Values.{absOf}
 use Rattle.float.specs.Order.{signed, rankOf}
 use Rattle.float.specs.Roots.{quanta}
 use Rattle.float.proofs.Bits.{fits-bare, bare-lt, inf-bits, zero-bits}
-use Rattle.float.proofs.Order.{le-fin, fin-le, lt→le, lt-irrefl}
+use Rattle.float.proofs.Order.{lt-irrefl}
 
 -- ---- the bits of a value that is not negative, by its size in units: the larger has the larger bits
 abbrev pub placed : ℕ → ℕ

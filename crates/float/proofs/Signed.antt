@@ -1,10 +1,10 @@
 -- Signed magnitudes ±a and ±b, of which the two zeros are one number: `Le` is the type that the tests `below` and `level` of lib.Ieee decide. Assumes nothing.
-use mathlib.Core.Path.{_≡_, refl, sym, ap, _∙_, subst}
+use mathlib.Core.Path.{_≡_, sym, ap, _∙_, subst}
 use mathlib.Core.Logic.{_⊎_, inl, inr, ⊎-elim}
 use Prim.Native.Nat.{ℕ, zero, suc, _+_, _*_, _≤_, _<_, zero-le}
 use native.Mathlib.Nat.{le-trans, not-le-of-lt, mul-pos, le-of-eq, le-of-lt, eq-or-lt-of-le, zero-mul, eq-zero-or-pos}
 use native.Mathlib.Omega.{arith}
-use mathlib.Core.Bool.{Bool, true, false, not, _&&_, _||_, Bool·beq}
+use mathlib.Core.Bool.{Bool, true, false, not, _&&_, _||_}
 use lib.Dec.{T, ltb, eqb, eqb→eq, ltb→lt, nltb→le, lt→ltb}
 use lib.Ieee.{below, level}
 use lib.Ieee.Fits.{and-l, and-r, and-i, eq→eqb}

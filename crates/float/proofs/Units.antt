@@ -1,5 +1,5 @@
 -- A value in units of 2 ^ -1074 from its bits, and the values that `sqrt` answers at once. Assumes nothing.
-use mathlib.Core.Path.{_≡_, refl, sym, ap, _∙_, subst}
+use mathlib.Core.Path.{_≡_, refl, sym, ap, _∙_}
 use Prim.Native.Nat.{ℕ, zero, suc, _+_, _-_, _*_, _/_, _%_, _^_, _≤_, _<_}
 use native.Mathlib.Nat.{zero-add, zero-mul, mul-one, mul-div-cancel, le-of-suc-le-suc, lt-of-not-le, eq-zero-or-pos}
 use native.Mathlib.Decide.{decLt}

@@ -1,9 +1,8 @@
 -- The laws of order and of rounding that later proofs cite. Statements only; each is proved under its record's name in proofs/.
 use mathlib.Core.Path.{_≡_}
-use mathlib.Core.Bool.{not}
 use mathlib.Core.Logic.{_⊎_}
 use lib.Dec.{T}
-use lib.Ieee.{Float, lt, le, eq, neg}
+use lib.Ieee.{Float, lt, le, neg}
 use Rattle.float.specs.Binary64.{F64, Number, NotAbove, _⊕_, _⊖_, _⊗_, _⊘_, plusZero}
 use Rattle.float.specs.Values.{Finite, absOf, signumOf, maxOf, minOf}
 use Rattle.float.specs.Roots.{SquareRoot, CubeRoot, differenceFactor}

@@ -2,6 +2,7 @@
 // taken apart by shifts and masks. A NaN's bits are free and are never read, so it goes first.
 ghost use mathlib.Core.Path.{_≡_};
 ghost use Prim.Native.Nat.{_*_, _^_, _<_};
+ghost use lib.Ieee.{lt};
 ghost use Rattle.float.specs.Values.{absOf, finiteOf, signumOf, maxOf, minOf};
 ghost use Rattle.float.specs.Order.{rankOf, keyOf, precedesOf};
 ghost use Rattle.float.specs.Roots.{differenceFactor};
@@ -57,16 +58,26 @@ fn rank(x: f64) -> i64
     if b >> 63 == 0 { m } else { 0 - m }
 }
 
+// a < b
+fn less(a: f64, b: f64) -> bool
+    ensures { λ r. ⌜ r ≡ lt a b ⌝ }
+{
+    if a != a {
+        return false;
+    }
+    if b != b {
+        return false;
+    }
+    rank(a) < rank(b)
+}
+
 pub fn max(a: f64, b: f64) -> f64
     ensures { λ r. ⌜ r ≡ maxOf a b ⌝ }
 {
     if a != a {
         return b;
     }
-    if b != b {
-        return a;
-    }
-    if rank(a) < rank(b) { b } else { a }
+    if less(a, b) { b } else { a }
 }
 
 pub fn min(a: f64, b: f64) -> f64
@@ -75,10 +86,7 @@ pub fn min(a: f64, b: f64) -> f64
     if a != a {
         return b;
     }
-    if b != b {
-        return a;
-    }
-    if rank(b) < rank(a) { b } else { a }
+    if less(b, a) { b } else { a }
 }
 
 // The key of `total_cmp`.

@@ -6,7 +6,7 @@ use mathlib.Core.Bool.{true, _&&_}
 use mathlib.Core.List.{List, [], _∷_, _++_, map, foldl, foldl-append, zipWith}
 use native.Mathlib.Nat.{not-suc-le-zero, le-refl, le-suc, le-trans, eq-or-lt-of-le, le-of-suc-le-suc}
 use native.Mathlib.Omega.{arith}
-use lib.ListN.{length, getD, replicate, length-append, length-replicate, getD-replicate, List·getD-append}
+use lib.ListN.{length, replicate, length-append, length-replicate, getD-replicate, List·getD-append}
 use lib.Seq.{getD-append-add, getD-at}
 use lib.Ieee.{Float, nan, neg}
 use Rattle.float.specs.Binary64.{_⊕_, _⊖_, _⊗_, _⊘_, plusZero, minusZero}

@@ -193,13 +193,13 @@ pub fn row_dot(h: &[f64; 256], i: usize, v: [f64; 16], n: usize) -> f64
     requires { ⌜ n ≤ 16 ⌝ }
     ensures { λ r. ⌜ r ≡ rowDotOf (now (h .entry)) i v n ⌝ }
 {
-    let mut s = -0.0;
+    let mut sum = -0.0;
     let mut j: usize = 0;
     while j < n {
-        s = s + h[i * 16 + j] * v[j];
+        sum = sum + h[i * 16 + j] * v[j];
         j += 1;
     }
-    s
+    sum
 }
 
 // The first n rows and columns of h by v.

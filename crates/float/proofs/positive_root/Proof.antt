@@ -1,7 +1,7 @@
 -- `float::positive_root` meets its contract. Assumes nothing.
 use borrow.Author.Needs.{needs}
 use native.Mathlib.Omega.{arith}
-use Rattle.float.proofs.Rounded.{r-low, r-high, no-nan, result-is}
+use Rattle.float.proofs.Rounded.{r-high, no-nan, result-is}
 use Rattle.float.proofs.positive_root.Statement.{statement}
 use Rattle.float.proofs.positive_root.Tie as tie
 

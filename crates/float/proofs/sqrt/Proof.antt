@@ -1,6 +1,5 @@
 -- `float::sqrt` meets its contract: each return follows the tests that led to it. Assumes nothing.
-use mathlib.Core.Path.{refl, _∙_}
-use mathlib.Core.Bool.{true, false}
+use mathlib.Core.Path.{_∙_}
 use lib.Ieee.{div, ofBits}
 use Rattle.float.specs.Binary64.{Number}
 use Rattle.float.specs.Sqrt.{sqrtOf}

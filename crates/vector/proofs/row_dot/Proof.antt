@@ -9,10 +9,10 @@ use Rattle.vector.proofs.row_dot.Statement.{statement}
 use Rattle.vector.proofs.row_dot.Tie as tie
 
 abbrev Inv-loop : tie.InvT-loop
-Inv-loop h i n v s₀ j₀ s j = Made 16 (rowDotOf h i v) n s j
+Inv-loop h i n v sum₀ j₀ sum j = Made 16 (rowDotOf h i v) n sum j
 
 abbrev μ-loop : tie.MeasureT-loop
-μ-loop h i n v s₀ j₀ s j = n - j
+μ-loop h i n v sum₀ j₀ sum j = n - j
 
 pub row-dot-spec : {M : Type 1} → statement M
 unfolding rowDotOf ofBits neg
