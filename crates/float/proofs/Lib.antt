@@ -6,7 +6,7 @@ pub mod Keys
 pub mod Words
 pub mod IntegerRoots
 pub mod Widths
-pub mod Units
+pub mod Quanta
 pub mod Rounded
 pub mod Grid
 pub mod Nearest

@@ -15,15 +15,15 @@ use lib.Ieee.Positive.{positive, positive-of-value}
 use lib.Ieee.Bits.{ofBits-fits}
 use Rattle.float.specs.Binary64.{F64, bits}
 use Rattle.float.specs.Roots.{quanta, quantaOf, twiceRoot, NearestRoot, SquareRoot, CubeRoot, differenceFactor}
-use Rattle.float.specs.Sqrt.{IntegerRoot, isqrt, rootOf, sqrtOf, unitsOf, FullWidth}
+use Rattle.float.specs.Sqrt.{IntegerRoot, isqrt, rootOf, sqrtOf, quantaOfBits, FullWidth}
 use Rattle.float.specs.Laws.{RootsAreNearest}
 use Rattle.float.proofs.Bits.{bare-lt, zero-bits}
 use Rattle.float.proofs.Ranks.{placed, bits-are, one-value}
 use Rattle.float.proofs.IntegerRoots.{next-square, twice-square}
 use Rattle.float.proofs.Widths.{made, full-low, full-high}
-use Rattle.float.proofs.Units.{units-of, units-odd}
+use Rattle.float.proofs.Quanta.{quanta-of, quanta-odd}
 use Rattle.float.proofs.Rounded.{square, digits, radicand, scaled, own-root, whole, r-low, made-bits, as-odd, result-is}
-use Rattle.float.proofs.Grid.{sum-below, nearest}
+use Rattle.float.proofs.Grid.{exact, sum-below, nearest}
 
 pow-two : (a : ℕ) → a ^ 2 ≡ a * a
 pow-two a = pow-suc a 1 ∙ ap (λ (x : ℕ). x * a) (pow-suc a 0 ∙ ap (λ (x : ℕ). x * a) (pow-zero a) ∙ one-mul a)
@@ -51,27 +51,27 @@ module _ (b m e : ℕ) (f : FullWidth b m e) where
   at-least : 2 ^ 53 ≤ r
   at-least = r-low b m e f r (own-root b m e f)
 
-  is-root : bits (made-bits b m e f r (own-root b m e f)) ≡ rootOf (unitsOf b)
+  is-root : bits (made-bits b m e f r (own-root b m e f)) ≡ rootOf (quantaOfBits b)
   is-root = result-is b m e f r (own-root b m e f)
 
-  as-digits : rootOf (unitsOf b) ≡ odd 53 false Q (e / 2 - 1) 1074
+  as-digits : rootOf (quantaOfBits b) ≡ odd 53 false Q (e / 2 - 1) 1074
   as-digits = sym is-root ∙ as-odd b m e f r (own-root b m e f)
 
-  units : quantaOf (rootOf (unitsOf b)) ≡ Q * U
-  units = ap quantaOf as-digits ∙ units-odd 53 false Q (e / 2 - 1)
+  in-quanta : quantaOf (rootOf (quantaOfBits b)) ≡ Q * U
+  in-quanta = ap quantaOf as-digits ∙ quanta-odd 53 false Q (e / 2 - 1)
 
-  held : F64 (rootOf (unitsOf b))
+  held : F64 (rootOf (quantaOfBits b))
   held = subst F64 is-root (ofBits-fits binary64 (made-bits b m e f r (own-root b m e f)))
 
-  above-zero : T (positive (rootOf (unitsOf b)))
+  above-zero : T (positive (rootOf (quantaOfBits b)))
   above-zero =
       subst (λ (y : Float). T (positive y)) (sym as-digits)
       (positive-of-value (odd 53 false Q (e / 2 - 1) 1074) (Q * U) (2 ^ 1074) (odd-sign 53 false Q (e / 2 - 1) 1074) (mul-pos (omega (arith, at-least)) (pow-pos (e / 2 - 1))))
 
   -- the power of twice the root
-  power : twiceRoot 2 (unitsOf b) ≡ N * (U * U)
+  power : twiceRoot 2 (quantaOfBits b) ≡ N * (U * U)
   power =
-      let n = unitsOf b in
+      let n = quantaOfBits b in
       let d = digits b m e f in
       sym (mul-assoc 4 n (2 ^ 1074))
       ∙ ap (λ (x : ℕ). x * 2 ^ 1074) (mul-comm 4 n)
@@ -84,7 +84,7 @@ module _ (b m e : ℕ) (f : FullWidth b m e) where
   UU : 0 < U * U
   UU = mul-pos (pow-pos (e / 2 - 1)) (pow-pos (e / 2 - 1))
 
-  larger : twiceRoot 2 (unitsOf b) < ((2 * Q + 1) * U) ^ 2
+  larger : twiceRoot 2 (quantaOfBits b) < ((2 * Q + 1) * U) ^ 2
   larger =
       lt-of-le-of-lt (le-of-eq power)
       (lt-of-lt-of-le (mul-lt-mul-of-pos-right (root-of-N .most) UU)
@@ -97,11 +97,11 @@ module _ (b m e : ℕ) (f : FullWidth b m e) where
       let least = root-of-N .least in
       omega arith
 
-  smaller : (x : Float) → quantaOf x ≡ unitsOf b → NearestRoot 2 x (rootOf (unitsOf b))
+  smaller : (x : Float) → quantaOf x ≡ quantaOfBits b → NearestRoot 2 x (rootOf (quantaOfBits b))
   smaller x u = elim (decLe (Q + Q) r) [
     | yes y ↦
         let even-r : r ≡ 2 * Q = omega arith in
-        nearest 2 x (rootOf (unitsOf b)) Q (e / 2 - 1) (2 * (Q * U) - 1) held above-zero units (omega (arith, at-least)) (rw u larger)
+        nearest 2 x (rootOf (quantaOfBits b)) Q (e / 2 - 1) (2 * (Q * U) - 1) held above-zero in-quanta (omega (arith, at-least)) (rw u larger)
         (λ Z g l. omega arith)
         (rw u
         (lt-of-lt-of-le (pow-lt-pow-left (less (Q * U) (mul-pos (omega (arith, at-least)) (pow-pos (e / 2 - 1)))) (λ z. omega arith))
@@ -110,7 +110,7 @@ module _ (b m e : ℕ) (f : FullWidth b m e) where
     | no n ↦
         let short : r < Q + Q = lt-of-not-le n in
         let odd-r : r ≡ 2 * Q - 1 = omega arith in
-        nearest 2 x (rootOf (unitsOf b)) Q (e / 2 - 1) ((2 * Q - 1) * U) held above-zero units (omega (arith, at-least)) (rw u larger)
+        nearest 2 x (rootOf (quantaOfBits b)) Q (e / 2 - 1) ((2 * Q - 1) * U) held above-zero in-quanta (omega (arith, at-least)) (rw u larger)
         (λ Z g l. sum-below Q (e / 2 - 1) Z g (omega (arith, at-least)) l)
         (rw u
         (lt-of-le-of-lt (le-of-eq (ap (λ (k : ℕ). (k * U) ^ 2) (sym odd-r) ∙ squares r U))
@@ -123,7 +123,7 @@ module _ (b m e : ℕ) (f : FullWidth b m e) where
 parts-of : (b : ℕ) → 0 < b → b < 0x7ff0_0000_0000_0000 → (m : ℕ) × (e : ℕ) × FullWidth b m e
 parts-of b h l = elim (ℕ-discrete (b / 2 ^ 52) 0) [ yes y ↦ (_, _, full-low b h y) | no n ↦ (_, _, full-high b n l) ]
 
-of-bits : (b : ℕ) → 0 < b → b < 0x7ff0_0000_0000_0000 → (x : Float) → quantaOf x ≡ unitsOf b → NearestRoot 2 x (rootOf (quantaOf x))
+of-bits : (b : ℕ) → 0 < b → b < 0x7ff0_0000_0000_0000 → (x : Float) → quantaOf x ≡ quantaOfBits b → NearestRoot 2 x (rootOf (quantaOf x))
 of-bits b h l x u = let p = parts-of b h l in subst (λ (n : ℕ). NearestRoot 2 x (rootOf n)) (sym u) (smaller b (p .0) (p .1) (p .2) x u)
 
 positive-square : (m : ℕ) (e : ℤ) → F64 (fin false (suc m) e) → NearestRoot 2 (fin false (suc m) e) (rootOf (quanta (suc m) e))
@@ -131,7 +131,7 @@ positive-square m e f =
     let x = fin false (suc m) e in
     let l = bare-lt (suc m) e f in
     let h : 0 < toBits binary64 x = elim (eq-zero-or-pos (toBits binary64 x)) [ inl z ↦ absurd (omega (arith, zero-bits (suc m) e f z)) | inr k ↦ k ] in
-    of-bits (toBits binary64 x) h l x (units-of x f l)
+    of-bits (toBits binary64 x) h l x (quanta-of x f l)
 
 square-root : (x : Float) → F64 x → SquareRoot x (sqrtOf x)
 unfolding sqrtOf
@@ -188,4 +188,4 @@ cube-root =
     (lit< tt)
 
 pub roots : RootsAreNearest
-roots = record { square = square-root; only-square = only-square; cube = cube-root; only-cube = λ r h. only-nearest 3 (fin false 1 (negsuc 51)) r differenceFactor h cube-root }
+roots = record { exact = exact; square = square-root; only-square = only-square; cube = cube-root; only-cube = λ r h. only-nearest 3 (fin false 1 (negsuc 51)) r differenceFactor h cube-root }

@@ -22,7 +22,7 @@ use Rattle.float.specs.Roots.{quanta}
 use Rattle.float.proofs.Bits.{fits-bare, bare-lt, inf-bits, zero-bits}
 use Rattle.float.proofs.Order.{lt-irrefl}
 
--- ---- the bits of a value that is not negative, by its size in units: the larger has the larger bits
+-- ---- the bits of a value that is not negative, by its quanta: the larger has the larger bits
 abbrev pub placed : ℕ → ℕ
 placed u = (size u - 53) * 2 ^ 52 + u / 2 ^ (size u - 53)
 

@@ -1,4 +1,4 @@
--- What `sqrt` makes of a value's significand and exponent is `rootOf` its units. Assumes nothing.
+-- What `sqrt` makes of a value's significand and exponent is `rootOf` its quanta. Assumes nothing.
 use mathlib.Core.Path.{_≡_, refl, sym, ap, _∙_, subst}
 use Prim.Native.Nat.{ℕ, zero, suc, _+_, _-_, _*_, _/_, _%_, _^_, _≤_, _<_}
 use native.Mathlib.Nat.{le-trans, le-of-eq, lt-of-le-of-lt, lt-of-lt-of-le, lt-of-not-le, le-antisymm, le-of-mul-le-mul-right, lt-of-mul-lt-mul-right, eq-of-mul-eq-mul-right, mul-assoc, mul-mul-mul-comm, mul-le-mul, mul-le-mul-right, mul-lt-mul-of-pos-right, div-eq-of-eq-mul-left, mod-eq-of-lt, pow-succ'}
@@ -11,10 +11,10 @@ use lib.Ieee.Digits.{size-lt, size-le}
 use lib.Ieee.Bits.{nanBits-above}
 use borrow.Author.Tests.{le-ltb}
 use Rattle.float.specs.Binary64.{bits}
-use Rattle.float.specs.Sqrt.{IntegerRoot, isqrt, quads, rootDigits, rootOf, unitsOf, FullWidth}
+use Rattle.float.specs.Sqrt.{IntegerRoot, isqrt, quads, rootDigits, rootOf, quantaOfBits, FullWidth}
 use Rattle.float.proofs.IntegerRoots.{isqrt-is, only-root}
 use Rattle.float.proofs.Widths.{made, pow-lt-back}
-use Rattle.float.proofs.Units.{normal-bits}
+use Rattle.float.proofs.Quanta.{normal-bits}
 
 pub square : (p : ℕ) → 4 ^ p ≡ 2 ^ p * 2 ^ p
 square zero = refl
@@ -45,7 +45,7 @@ root-high n r w h = lt-of-not-le (λ (g : 2 ^ 54 - 1 ≤ r). no (mul-le-mul {n�
 -- ---- the bits b, with their significand m and exponent e
 module _ (b m e : ℕ) (f : FullWidth b m e) where
   abbrev n : ℕ
-  n = unitsOf b
+  n = quantaOfBits b
 
   size-is : size n ≡ suc (e - 972)
   size-is =

@@ -8,7 +8,7 @@ use lib.Count.{leadingZeros, leading-top}
 use lib.Bits.{bitAnd, and-mask}
 use lib.Pow.{pow-pos, pow-mono, pow-add}
 use borrow.Author.Tests.{lt-ltb, le-ltb}
-use Rattle.float.specs.Sqrt.{FullWidth, unitsOf}
+use Rattle.float.specs.Sqrt.{FullWidth, quantaOfBits}
 
 pub pow-lt-back : (a b : ℕ) → 2 ^ a < 2 ^ b → a < b
 pow-lt-back a b h = lt-of-not-le (λ g. not-le-of-lt h (pow-mono g))
@@ -66,8 +66,8 @@ module _ (b : ℕ) (h : 0 < b) (low : b / 2 ^ 52 ≡ 0) where
       subst (λ (x : ℕ). FullWidth x (bare * 2 ^ (leadingZeros 64 bare - 11) % 2 ^ 64) (1024 - (leadingZeros 64 bare - 11))) itself
       (low-at bare (leadingZeros 64 bare - 11) found (omega (arith, found .zeros, found .below)) (omega (arith, itself)))
 
-high-units : (b m e : ℕ) → 2 ^ 52 ≤ b → m ≡ 2 ^ 52 + b % 2 ^ 52 → e ≡ b / 2 ^ 52 + 1023 → unitsOf b * 2 ^ 1024 ≡ m * 2 ^ e
-high-units b m e h p q =
+high-quanta : (b m e : ℕ) → 2 ^ 52 ≤ b → m ≡ 2 ^ 52 + b % 2 ^ 52 → e ≡ b / 2 ^ 52 + 1023 → quantaOfBits b * 2 ^ 1024 ≡ m * 2 ^ e
+high-quanta b m e h p q =
     ap (λ (x : ℕ). x * 2 ^ 1024) (ap (λ x. cond x b ((2 ^ 52 + b % 2 ^ 52) * 2 ^ (b / 2 ^ 52 - 1))) (le-ltb b (2 ^ 52) h) ∙ ap (λ (x : ℕ). x * 2 ^ (b / 2 ^ 52 - 1)) (sym p))
     ∙ mul-assoc m (2 ^ (b / 2 ^ 52 - 1)) (2 ^ 1024)
     ∙ ap (λ (x : ℕ). m * x) (made (b / 2 ^ 52 - 1) 1024 e (omega arith))
@@ -81,7 +81,7 @@ full-high b n l =
       most = omega arith;
       from = omega arith;
       to = omega arith;
-      same = high-units b (2 ^ 52 + bitAnd b 0x000f_ffff_ffff_ffff) (b / 2 ^ 52 + 1023) h (ap (λ (x : ℕ). 2 ^ 52 + x) e) refl;
+      same = high-quanta b (2 ^ 52 + bitAnd b 0x000f_ffff_ffff_ffff) (b / 2 ^ 52 + 1023) h (ap (λ (x : ℕ). 2 ^ 52 + x) e) refl;
     }
   where
     le-of-not-lt : (b < 2 ^ 52 → ⊥) → 2 ^ 52 ≤ b

@@ -1,11 +1,14 @@
 -- The laws of order and of rounding that later proofs cite. Statements only; each is proved under its record's name in proofs/.
+use Prim.Native.Nat.{ℕ, _*_, _^_}
 use mathlib.Core.Path.{_≡_}
+use mathlib.Core.Bool.{Bool}
 use mathlib.Core.Logic.{_⊎_}
 use lib.Dec.{T}
-use lib.Ieee.{Float, lt, le, neg}
+use lib.IntN.{ℤ}
+use lib.Ieee.{Float, fin, up, down, lt, le, neg}
 use Rattle.float.specs.Binary64.{F64, Number, NotAbove, _⊕_, _⊖_, _⊗_, _⊘_, plusZero}
 use Rattle.float.specs.Values.{Finite, absOf, signumOf, maxOf, minOf}
-use Rattle.float.specs.Roots.{SquareRoot, CubeRoot, differenceFactor}
+use Rattle.float.specs.Roots.{quanta, SquareRoot, CubeRoot, differenceFactor}
 use Rattle.float.specs.Sqrt.{sqrtOf}
 
 -- `<` and `<=` on all values, NaN among them
@@ -35,6 +38,8 @@ ArmijoNeverRises =
 
 -- the square root that the code computes is IEEE 754's, c is the cube root that 01 names, and no other value is either
 pub record RootsAreNearest : Type 0 where
+  -- quanta leave nothing over
+  pub exact : (s : Bool) (m : ℕ) (e : ℤ) → F64 (fin s m e) → quanta m e * down e ≡ m * up e * 2 ^ 1074
   pub square : (x : Float) → F64 x → SquareRoot x (sqrtOf x)
   pub only-square : (x r : Float) → F64 x → SquareRoot x r → r ≡ sqrtOf x
   pub cube : CubeRoot differenceFactor

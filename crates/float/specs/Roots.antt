@@ -9,7 +9,8 @@ use lib.Dec.{T}
 use lib.Ieee.Positive.{positive}
 use Rattle.float.specs.Binary64.{F64}
 
--- the magnitude of m * 2 ^ e in units of 2 ^ -1074, of which every finite value of binary64 is a whole number
+-- The magnitude of m * 2 ^ e in quanta of 2 ^ -1074: every finite value of binary64 is a whole number of them (IEEE 754: a value's quantum is
+-- a unit in the last place of its significand, and this is the smallest)
 abbrev pub quanta : ℕ → ℤ → ℕ
 quanta m e = m * up e * 2 ^ 1074 / down e
 
@@ -19,12 +20,12 @@ quantaOf nan = 0
 quantaOf (inf s) = 0
 quantaOf (fin s m e) = quanta m e
 
--- (2 Y) ^ p, where Y is the p-th root of X units, in units: Y ^ p is X * 2 ^ (1074 (p - 1))
+-- (2 Y) ^ p, where the p-th root of X quanta is Y quanta: Y ^ p is X * 2 ^ (1074 (p - 1))
 abbrev pub twiceRoot : ℕ → ℕ → ℕ
 twiceRoot p X = 2 ^ p * (X * 2 ^ (1074 * (p - 1)))
 
 -- r is the value of binary64 nearest to the exact p-th root of x, a finite number above zero.
--- In units x is X, r is R, and any other value that is not below zero, z = m * 2 ^ e, is Z. The root Y is nearer to R than to Z where it lies on R's
+-- In quanta x is X, r is R, and any other value that is not below zero, z = m * 2 ^ e, is Z. The root Y is nearer to R than to Z where it lies on R's
 -- side of their middle: 2 Y < R + Z where R < Z, and R + Z < 2 Y where Z < R. Both are said of p-th powers. Both are strict, so no value is as
 -- near as r, and no tie is left to be broken. A value below zero is farther from Y than +0 is.
 pub record NearestRoot (p : ℕ) (x r : Float) : Type 0 where

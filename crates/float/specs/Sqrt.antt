@@ -1,5 +1,5 @@
--- The square root as a definition that computes. That it is IEEE 754's is `square-root` of proofs/Nearest.antt. Definitions only.
--- A finite value above zero is n units of 2 ^ -1074, and its root is that of n / 4 ^ 537. With p digits of n to the base 4, n * 4 ^ 54 / 4 ^ p has 54 of them,
+-- The square root as a definition that computes. That it is IEEE 754's is `roots` of proofs/Nearest.antt. Definitions only.
+-- A finite value above zero is n quanta of 2 ^ -1074, and its root is that of n / 4 ^ 537. With p digits of n to the base 4, n * 4 ^ 54 / 4 ^ p has 54 of them,
 -- with nothing left over, since binary64 holds n. Its integer root has 54 binary digits: the 53 that are kept, and one by which they are rounded.
 use Prim.Native.Nat.{ℕ, zero, suc, _+_, _-_, _*_, _/_, _%_, _^_, _≤_, _<_}
 use mathlib.Core.Path.{_≡_}
@@ -26,7 +26,7 @@ quads n = (size n + 1) / 2
 abbrev pub rootDigits : ℕ → ℕ → ℕ
 rootDigits n p = (isqrt 54 (n * 4 ^ 54 / 4 ^ p) + 1) / 2
 
--- the root of n units, as a value
+-- the root of n quanta, as a value
 unfoldable pub rootOf : ℕ → Float
 unfolding isqrt size odd
 rootOf n = odd 53 false (rootDigits n (quads n)) (quads n + 484) 1074
@@ -43,14 +43,14 @@ sqrtOf (fin false (suc m) e) = rootOf (quanta (suc m) e)
 
 -- ---- what the parts of the code show of each other
 
--- how many units the bits b of a finite value that is not negative stand for
-abbrev pub unitsOf : ℕ → ℕ
-unitsOf b = cond (ltb b (2 ^ 52)) b ((2 ^ 52 + b % 2 ^ 52) * 2 ^ (b / 2 ^ 52 - 1))
+-- how many quanta the bits b of a finite value that is not negative stand for
+abbrev pub quantaOfBits : ℕ → ℕ
+quantaOfBits b = cond (ltb b (2 ^ 52)) b ((2 ^ 52 + b % 2 ^ 52) * 2 ^ (b / 2 ^ 52 - 1))
 
--- the bits b stand for m * 2 ^ (e - 1024) units, with a significand m of full width
+-- the bits b stand for m * 2 ^ (e - 1024) quanta, with a significand m of full width
 pub record FullWidth (b m e : ℕ) : Type 0 where
   pub least : 2 ^ 52 ≤ m
   pub most : m < 2 ^ 53
   pub from : 972 ≤ e
   pub to : e < 3070
-  pub same : unitsOf b * 2 ^ 1024 ≡ m * 2 ^ e
+  pub same : quantaOfBits b * 2 ^ 1024 ≡ m * 2 ^ e

@@ -6,7 +6,7 @@ ghost use lib.Ieee.{lt};
 ghost use Rattle.float.specs.Values.{absOf, finiteOf, signumOf, maxOf, minOf};
 ghost use Rattle.float.specs.Order.{rankOf, keyOf, precedesOf};
 ghost use Rattle.float.specs.Roots.{differenceFactor};
-ghost use Rattle.float.specs.Sqrt.{sqrtOf, rootOf, unitsOf, IntegerRoot, FullWidth};
+ghost use Rattle.float.specs.Sqrt.{sqrtOf, rootOf, quantaOfBits, IntegerRoot, FullWidth};
 
 // All bits but the sign's.
 const MAGNITUDE: u64 = 0x7fff_ffff_ffff_ffff;
@@ -173,7 +173,7 @@ fn integer_root(w: u64) -> u64
 fn positive_root(b: u64) -> f64
     requires { ⌜ 0 < b ⌝ }
     requires { ⌜ b < 0x7ff0_0000_0000_0000 ⌝ }
-    ensures { λ r. ⌜ r ≡ rootOf (unitsOf b) ⌝ }
+    ensures { λ r. ⌜ r ≡ rootOf (quantaOfBits b) ⌝ }
 {
     let p = full_width(b);
     let w = p.m << (10 + p.e % 2);

@@ -4,7 +4,7 @@ use lib.Ieee.{div, ofBits}
 use Rattle.float.specs.Binary64.{Number}
 use Rattle.float.specs.Sqrt.{sqrtOf}
 use Rattle.float.proofs.Bits.{held, is-nan, number}
-use Rattle.float.proofs.Units.{root-of-zero, root-below-zero, root-of-infinity, at-least, at-most, above-is}
+use Rattle.float.proofs.Quanta.{root-of-zero, root-below-zero, root-of-infinity, at-least, at-most, above-is}
 use Rattle.float.proofs.sqrt.Statement.{statement}
 use Rattle.float.proofs.sqrt.Tie as tie
 

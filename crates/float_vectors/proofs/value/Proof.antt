@@ -4,7 +4,6 @@ use borrow.Author.Tests.{le-ltb}
 use native.Mathlib.Omega.{arith}
 use Prim.Native.Nat.{_%_, _^_}
 use lib.Bits.{and-mask}
-use lib.Ieee.{binary64}
 use lib.Ieee.Bits.{nanBits-above}
 use Rattle.float_vectors.proofs.value.Statement.{statement}
 use Rattle.float_vectors.proofs.value.Tie as tie
@@ -15,6 +14,6 @@ value-spec =
     (tie.spec
     (λ c. search needs)
     (λ c.
-      let b = c .before .args .bits in
-      rw (nanBits-above, le-ltb 0x7ff0_0000_0000_0000 (b % 2 ^ 63) (omega (arith, and-mask b 63, c .if1 .left))) tt)
+    let b = c .before .args .bits in
+    rw (nanBits-above, le-ltb 0x7ff0_0000_0000_0000 (b % 2 ^ 63) (omega (arith, and-mask b 63, c .if1 .left))) tt)
     (λ c. search needs))

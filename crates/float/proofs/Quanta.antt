@@ -1,4 +1,4 @@
--- A value in units of 2 ^ -1074 from its bits, and the values that `sqrt` answers at once. Assumes nothing.
+-- A value in quanta of 2 ^ -1074 from its bits, and the values that `sqrt` answers at once. Assumes nothing.
 use mathlib.Core.Path.{_≡_, refl, sym, ap, _∙_}
 use Prim.Native.Nat.{ℕ, zero, suc, _+_, _-_, _*_, _/_, _%_, _^_, _≤_, _<_}
 use native.Mathlib.Nat.{zero-add, zero-mul, mul-one, mul-div-cancel, le-of-suc-le-suc, lt-of-not-le, eq-zero-or-pos}
@@ -17,20 +17,20 @@ use borrow.Author.Tests.{lt-ltb, le-ltb, lt-leb, ne-eqb}
 use Rattle.float.specs.Binary64.{F64, Number, negative, bits}
 use Rattle.float.specs.Values.{absOf}
 use Rattle.float.specs.Roots.{quanta, quantaOf}
-use Rattle.float.specs.Sqrt.{sqrtOf, rootOf, unitsOf}
+use Rattle.float.specs.Sqrt.{sqrtOf, rootOf, quantaOfBits}
 use Rattle.float.proofs.Bits.{fits-bare, bare-lt, inf-bits, zero-bits, parted, magnitude, abs-most, sign-bit}
 use Rattle.float.proofs.Ranks.{no-bits}
 
--- ---- a finite value in units, from its bits
-units-is : (m : ℕ) (e : ℤ) (a : ℕ) → m * up e * 2 ^ 1074 ≡ a * down e → quanta m e ≡ a
-units-is m e a h = ap (λ (x : ℕ). x / down e) h ∙ mul-div-cancel a (down-pos e)
+-- ---- a finite value in quanta, from its bits
+quanta-is : (m : ℕ) (e : ℤ) (a : ℕ) → m * up e * 2 ^ 1074 ≡ a * down e → quanta m e ≡ a
+quanta-is m e a h = ap (λ (x : ℕ). x / down e) h ∙ mul-div-cancel a (down-pos e)
 
-pub units-odd : (d : ℕ) (s : Bool) (q k : ℕ) → quantaOf (odd d s q k 1074) ≡ q * 2 ^ k
+pub quanta-odd : (d : ℕ) (s : Bool) (q k : ℕ) → quantaOf (odd d s q k 1074) ≡ q * 2 ^ k
 unfolding odd
-units-odd d s zero k = sym (zero-mul (2 ^ k))
-units-odd d s (suc q) k =
+quanta-odd d s zero k = sym (zero-mul (2 ^ k))
+quanta-odd d s (suc q) k =
     let t = trailingZeros d (suc q) in
-    units-is (suc q / 2 ^ t) (minus (k + t) 1074) (suc q * 2 ^ k) (odd-val d s (suc q) k 1074)
+    quanta-is (suc q / 2 ^ t) (minus (k + t) 1074) (suc q * 2 ^ k) (odd-val d s (suc q) k 1074)
 
 -- by the exponent's field and the fraction
 pub normal-bits : (x t : ℕ) → x < 2046 → t < 2 ^ 52 → bits (suc x * 2 ^ 52 + t) ≡ odd 53 false (2 ^ 52 + t) x 1074
@@ -48,24 +48,24 @@ low-bits b l =
     let q : b % hid binary64 ≡ b = omega arith in
     rw (lt-leb (top binary64) b (omega arith), p, q)
 
-units-low : (b : ℕ) → b < 2 ^ 52 → quantaOf (bits b) ≡ unitsOf b
-units-low b l = rw (low-bits b l, units-odd, lt-ltb b (2 ^ 52) l) (mul-one b)
+quanta-low : (b : ℕ) → b < 2 ^ 52 → quantaOf (bits b) ≡ quantaOfBits b
+quanta-low b l = rw (low-bits b l, quanta-odd, lt-ltb b (2 ^ 52) l) (mul-one b)
 
-units-high : (b : ℕ) → 2 ^ 52 ≤ b → b < 0x7ff0_0000_0000_0000 → quantaOf (bits b) ≡ unitsOf b
-units-high b h l =
+quanta-high : (b : ℕ) → 2 ^ 52 ≤ b → b < 0x7ff0_0000_0000_0000 → quantaOf (bits b) ≡ quantaOfBits b
+quanta-high b h l =
     let x = b / 2 ^ 52 - 1 in
     let t = b % 2 ^ 52 in
     let e : b ≡ suc x * 2 ^ 52 + t = omega arith in
     ap (λ (y : ℕ). quantaOf (bits y)) e
     ∙ ap quantaOf (normal-bits x t (omega arith) (omega arith))
-    ∙ units-odd 53 false (2 ^ 52 + t) x
+    ∙ quanta-odd 53 false (2 ^ 52 + t) x
     ∙ rw (le-ltb b (2 ^ 52) h)
 
-units-bits : (b : ℕ) → b < 0x7ff0_0000_0000_0000 → quantaOf (bits b) ≡ unitsOf b
-units-bits b l = elim (decLt b (2 ^ 52)) [ yes y ↦ units-low b y | no n ↦ units-high b (le-of-suc-le-suc (lt-of-not-le n)) l ]
+quanta-bits : (b : ℕ) → b < 0x7ff0_0000_0000_0000 → quantaOf (bits b) ≡ quantaOfBits b
+quanta-bits b l = elim (decLt b (2 ^ 52)) [ yes y ↦ quanta-low b y | no n ↦ quanta-high b (le-of-suc-le-suc (lt-of-not-le n)) l ]
 
-pub units-of : (x : Float) → F64 x → toBits binary64 x < 0x7ff0_0000_0000_0000 → quantaOf x ≡ unitsOf (toBits binary64 x)
-units-of x f l = ap quantaOf (sym (ofBits-toBits binary64 x f)) ∙ units-bits (toBits binary64 x) l
+pub quanta-of : (x : Float) → F64 x → toBits binary64 x < 0x7ff0_0000_0000_0000 → quantaOf x ≡ quantaOfBits (toBits binary64 x)
+quanta-of x f l = ap quantaOf (sym (ofBits-toBits binary64 x f)) ∙ quanta-bits (toBits binary64 x) l
 
 -- ---- the root of a finite value above zero
 above : (x : Float) → Number x → 0 < toBits binary64 x → toBits binary64 x < 0x7ff0_0000_0000_0000 → rootOf (quantaOf x) ≡ sqrtOf x
@@ -77,8 +77,8 @@ above (fin true m e) h k l = absurd (omega (arith, parted (fin true m e) tt))
 above (fin false zero e) h k l = absurd (omega (arith, no-bits e))
 above (fin false (suc m) e) h k l = refl
 
-pub above-is : (x : Float) → F64 x → Number x → 0 < toBits binary64 x → toBits binary64 x < 0x7ff0_0000_0000_0000 → rootOf (unitsOf (toBits binary64 x)) ≡ sqrtOf x
-above-is x f h k l = ap rootOf (sym (units-of x f l)) ∙ above x h k l
+pub above-is : (x : Float) → F64 x → Number x → 0 < toBits binary64 x → toBits binary64 x < 0x7ff0_0000_0000_0000 → rootOf (quantaOfBits (toBits binary64 x)) ≡ sqrtOf x
+above-is x f h k l = ap rootOf (sym (quanta-of x f l)) ∙ above x h k l
 
 -- ---- the others, by the tests of `sqrt`: a zero, below zero, +infinity
 zero-root : (x : Float) → F64 x → Number x → toBits binary64 (absOf x) ≡ 0 → x ≡ sqrtOf x
