@@ -1,0 +1,4 @@
+pub mod Protocol
+pub mod Claim
+pub mod Ask
+pub mod Rounds
