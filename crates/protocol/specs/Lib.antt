@@ -2,3 +2,4 @@ pub mod Protocol
 pub mod Claim
 pub mod Ask
 pub mod Rounds
+pub mod RoundsLaws
