@@ -41,7 +41,7 @@ zip-upto : {A B C : Type 0} (f : A → B → C) (g : ℕ → A) (h : ℕ → B) 
 zip-upto f g h zero = unfold zipWith in refl
 zip-upto f g h (suc n) = zip-more f (upto g n) (upto h n) (g n) (h n) (length-upto g n ∙ sym (length-upto h n)) ∙ ap (λ l. l ++ (f (g n) (h n) ∷ [])) (zip-upto f g h n)
 
-upto-same : {A : Type 0} (f g : ℕ → A) (n : ℕ) → ((k : ℕ) → k < n → f k ≡ g k) → upto f n ≡ upto g n
+pub upto-same : {A : Type 0} (f g : ℕ → A) (n : ℕ) → ((k : ℕ) → k < n → f k ≡ g k) → upto f n ≡ upto g n
 upto-same f g zero h = refl
 upto-same f g (suc n) h = ap₂ (λ l x. l ++ (x ∷ [])) (upto-same f g n (λ k l. h k (le-trans l (le-suc n)))) (h n (le-refl (suc n)))
 

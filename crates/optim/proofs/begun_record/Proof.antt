@@ -1,0 +1,14 @@
+-- `optim::begun_record` meets its contract: each return follows the calls and tests that led to it. Assumes nothing.
+use borrow.Author.Needs.{needs}
+use Rattle.optim.specs.Start.{begunRecordOf}
+use Rattle.optim.proofs.begun_record.Statement.{statement}
+use Rattle.optim.proofs.begun_record.Tie as tie
+
+pub begun-record-spec : {M : Type 1} → statement M
+unfolding begunRecordOf
+begun-record-spec =
+    tie.close
+    (tie.spec
+    (λ c κs. search needs)
+    (λ c κs. search needs)
+    (λ c. rw (← c .before .from-slice .ensures, ← c .begun .ensures)))
