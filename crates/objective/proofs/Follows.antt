@@ -1,12 +1,12 @@
 -- The record of the differences follows the Algorithm, however values are read: `follows`. Assumes nothing.
-use mathlib.Core.Path.{_≡_, refl, sym, ap, ap₂, _∙_, fun-ext}
+use mathlib.Core.Path.{_≡_, refl, ap₂, _∙_, fun-ext}
 use Prim.Native.Nat.{ℕ, zero, suc, _+_, _-_, _≤_, _<_, zero-le}
 use mathlib.Core.Bool.{Bool, true, false, cond}
 use mathlib.Core.List.{List, [], _∷_, _++_}
 use native.Mathlib.Omega.{arith}
 use native.Mathlib.Nat.{sub-zero}
 use native.Mathlib.Numerals.{add-one}
-use lib.ListN.{length, getD, set, length-set, replicate, getD-replicate}
+use lib.ListN.{length, getD, set, length-set, getD-replicate}
 use lib.Seq.{getD-set-other}
 use lib.Ieee.{Float, nan}
 use Rattle.float.specs.Binary64.{plusZero}
@@ -15,7 +15,7 @@ use Rattle.vector.specs.Lists.{first}
 use Rattle.vector.proofs.First.{point-laws}
 use Rattle.vector.proofs.Stores.{first-set, first-more}
 use Rattle.protocol.specs.declared.Kind.the-variants.{Value}
-use Rattle.protocol.specs.Ask.{Ask, finish, query, _>>=_}
+use Rattle.protocol.specs.Ask.{finish, query, _>>=_}
 use Rattle.objective.specs.declared.Differences.{Differences}
 use Rattle.objective.specs.Algorithm.{forwardOf, backwardOf, slopeAt, differencesFrom, differences}
 use Rattle.objective.specs.Step.{begunOf, probeOf, toldOf}

@@ -1,5 +1,5 @@
 -- What a valid record's numbers keep to, and that each reply can stand. Assumes nothing.
-use Prim.Native.Nat.{ℕ, _+_, _≤_, _<_, zero-le}
+use Prim.Native.Nat.{ℕ, _≤_, _<_, zero-le}
 use mathlib.Core.Path.{_≡_, refl, sym, subst}
 use mathlib.Core.Bool.{Bool, true, false, not, cond}
 use mathlib.Core.List.{List}
@@ -7,12 +7,12 @@ use native.Mathlib.Omega.{arith}
 use lib.Dec.{T, eqb, ltb}
 use lib.ListN.{length}
 use lib.Ieee.{Float}
-use borrow.Author.Tests.{ltb-false, eqb-false}
+use borrow.Author.Tests.{ltb-false, eqb-true, eqb-false}
 use Rattle.objective.specs.Step.{begunOf}
 use Rattle.objective.proofs.Follows.{told-within}
 use Rattle.optim.specs.declared.Record.{Record}
 use Rattle.optim.specs.Record.{differencesMark, most, validOf, Ranges, Stands}
-use Rattle.optim.specs.Answer.{overOf, steppedOf}
+use Rattle.optim.specs.Answer.{overOf, steppedOf, suitsOf}
 use Rattle.optim.specs.Start.{begunRecordOf}
 
 -- a chain of tests that is true has passed each
@@ -48,3 +48,8 @@ stepped-stands r v h l = record { few = h .few; within = told-within (r .n) (r .
 pub begun-stands : (x : List Float) → length x ≤ 16 → Stands (begunRecordOf x)
 unfolding begunRecordOf begunOf
 begun-stands x h = record { few = h; within = zero-le; numbers = zero-le }
+
+-- an answer that suits has its one word
+pub one-word : (kind : ℕ) (words : List Float) → suitsOf kind (length words) ≡ true → length words ≡ 1
+unfolding suitsOf
+one-word kind words e = eqb-true (length words) 1 (passed (not (eqb kind 86)) (eqb (length words) 1) e .1)

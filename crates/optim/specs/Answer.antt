@@ -38,15 +38,18 @@ steppedOf r v = record { accepted = r .accepted + 1; job = r .job; n = r .n; cou
 unfoldable pub takenOf : Record → Float → Reply × Record
 takenOf r v = standingOf (steppedOf r v)
 
+-- "A V answer is one f64"
+unfoldable pub suitsOf : ℕ → ℕ → Bool
+suitsOf kind count = cond (not (eqb kind (letter Value))) false (eqb count 1)
+
 -- over a record in range: the repeat rule, then 15, 16, 17, else the answer is accepted
 unfoldable pub heardOf : Record → ℕ → ℕ → List Float → Reply × Record
 heardOf r number kind words =
     cond (repeatsOf (r .accepted) number) (standingOf r)
     (cond (overOf r) (refusedOf r 15 0)
     (cond (not (eqb number (r .accepted + 1))) (refusedOf r 16 0)
-    (cond (not (eqb kind (letter Value))) (refusedOf r 17 0)
-    (cond (not (eqb (length words) 1)) (refusedOf r 17 0)
-    (takenOf r (getD words 0 nan))))))
+    (cond (not (suitsOf kind (length words))) (refusedOf r 17 0)
+    (takenOf r (getD words 0 nan)))))
 
 -- "an answer [meets] 1, then the repeat rule, then 15 to 17"
 unfoldable pub answerOf : Record → ℕ → ℕ → List Float → Reply × Record

@@ -1,6 +1,6 @@
 -- The record: the blank one, what is in range (refusal 1), and a reply with its record in 01's words. Definitions only.
 use Prim.Native.Nat.{ℕ, _+_, _≤_}
-use mathlib.Core.Bool.{Bool, true, false, cond, not}
+use mathlib.Core.Bool.{Bool, false, cond, not}
 use lib.Dec.{leb, ltb, eqb}
 use lib.ListN.{replicate}
 use Rattle.float.specs.Binary64.{plusZero}

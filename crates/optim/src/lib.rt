@@ -7,7 +7,7 @@ ghost use mathlib.Core.Path.{_≡_};
 ghost use Prim.Native.Nat.{_≤_, _<_};
 ghost use lib.ListN.{length};
 ghost use Rattle.optim.specs.Record.{blankOf, outcomeOf, validOf, Ranges, Stands};
-ghost use Rattle.optim.specs.Answer.{refusedOf, overOf, standingOf, repeatsOf, steppedOf, takenOf, heardOf, answerOf};
+ghost use Rattle.optim.specs.Answer.{refusedOf, overOf, standingOf, repeatsOf, steppedOf, takenOf, suitsOf, heardOf, answerOf};
 ghost use Rattle.optim.specs.Start.{begunRecordOf, differencesOf};
 
 // The job marks that are known.
@@ -85,13 +85,14 @@ pub fn valid(r: Record) -> bool
 fn refused(r: Record, number: u64, detail: u64) -> Answered
     ensures { λ a. ⌜ outcomeOf a ≡ refusedOf r number detail ⌝ }
 {
+    let next = r;
     let x = [0.0; 16];
     let g = [0.0; 16];
     Answered {
         said: Said::Refused(number, detail),
         x,
         g,
-        next: r,
+        next,
     }
 }
 
@@ -168,25 +169,35 @@ fn taken(r: Record, v: f64) -> Answered
     standing(q)
 }
 
+// Whether an answer's kind and count of words are those of the open question: a value.
+fn suits(kind: u8, count: usize) -> bool
+    ensures { λ b. ⌜ b ≡ suitsOf kind count ⌝ }
+{
+    if kind != b'V' {
+        return false;
+    }
+    count == 1
+}
+
 // The reply to an answer, over a record in range.
 fn heard(r: Record, number: u64, kind: u8, words: &[f64]) -> Answered
     requires { ⌜ Ranges r ⌝ }
     ensures { λ a. ⌜ outcomeOf a ≡ heardOf r number kind (now (words .entry)) ⌝ }
 {
     let due = r.accepted + 1;
-    if repeats(r.accepted, number) {
+    let repeated = repeats(r.accepted, number);
+    let ended = over(r);
+    let suited = suits(kind, words.len());
+    if repeated {
         return standing(r);
     }
-    if over(r) {
+    if ended {
         return refused(r, 15, 0);
     }
     if number != due {
         return refused(r, 16, 0);
     }
-    if kind != b'V' {
-        return refused(r, 17, 0);
-    }
-    if words.len() != 1 {
+    if !suited {
         return refused(r, 17, 0);
     }
     let v = words[0];

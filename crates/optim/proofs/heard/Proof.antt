@@ -2,8 +2,10 @@
 use borrow.Author.Needs.{needs}
 use borrow.Author.Tests.{eq-eqb, ne-eqb}
 use Rattle.optim.specs.Answer.{heardOf}
-use Rattle.optim.proofs.Ranges.{stands, open-within}
+use Rattle.optim.proofs.Ranges.{stands, open-within, one-word}
 use mathlib.Core.Path.{sym, _∙_}
+use borrow.Author.Tests.{not-false}
+use native.Mathlib.Omega.{arith}
 use Rattle.optim.proofs.heard.Statement.{statement}
 use Rattle.optim.proofs.heard.Tie as tie
 
@@ -14,17 +16,16 @@ heard-spec =
     (tie.spec
     (λ c. search needs)
     (λ c κs. search needs)
-    (λ c κs. stands (c .before .before .before .before .args .r) (c .before .before .before .before .pre))
-    (λ c. rw (← c .before .before .repeats .ensures, ← c .standing .ensures, c .before .if1 .taken))
     (λ c κs. search needs)
     (λ c κs. search needs)
-    (λ c. rw (← c .before .before .before .before .repeats .ensures, ← c .before .before .over .ensures, ← c .refused .ensures, c .before .before .before .if1 .left, c .before .if2 .taken))
+    (λ c κs. stands (c .before .before .before .before .before .before .args .r) (c .before .before .before .before .before .before .pre))
+    (λ c. rw (← c .before .before .before .before .repeats .ensures, ← c .before .before .before .over .ensures, ← c .before .before .suits .ensures, ← c .standing .ensures, c .before .if1 .taken))
     (λ c κs. search needs)
-    (λ c. rw (← c .before .before .before .before .before .repeats .ensures, ← c .before .before .before .over .ensures, ← c .refused2 .ensures, c .before .before .before .before .if1 .left, c .before .before .if2 .left, ne-eqb _ _ (c .before .if3 .taken)))
+    (λ c. rw (← c .before .before .before .before .before .repeats .ensures, ← c .before .before .before .before .over .ensures, ← c .before .before .before .suits .ensures, ← c .refused .ensures, c .before .before .if1 .left, c .before .if2 .taken))
     (λ c κs. search needs)
-    (λ c. rw (← c .before .before .before .before .before .before .repeats .ensures, ← c .before .before .before .before .over .ensures, ← c .refused3 .ensures, c .before .before .before .before .before .if1 .left, c .before .before .before .if2 .left, eq-eqb _ _ (c .before .before .if3 .left), ne-eqb _ _ (c .before .if4 .taken)))
+    (λ c. rw (← c .before .before .before .before .before .before .repeats .ensures, ← c .before .before .before .before .before .over .ensures, ← c .before .before .before .before .suits .ensures, ← c .refused2 .ensures, c .before .before .before .if1 .left, c .before .before .if2 .left, ne-eqb _ _ (c .before .if3 .taken)))
     (λ c κs. search needs)
-    (λ c. rw (← c .before .before .before .before .before .before .before .repeats .ensures, ← c .before .before .before .before .before .over .ensures, ← c .refused4 .ensures, c .before .before .before .before .before .before .if1 .left, c .before .before .before .before .if2 .left, eq-eqb _ _ (c .before .before .before .if3 .left), eq-eqb _ _ (c .before .before .if4 .left), ne-eqb _ _ (c .before .if5 .taken)))
-    (λ c. search needs)
-    (λ c κs. (c .before .before .before .before .before .before .before .before .before .before .pre, open-within (c .before .before .before .before .before .before .before .before .before .before .args .r) (c .before .before .before .before .before .before .before .before .before .before .pre) (sym (c .before .before .before .before .before .over .ensures) ∙ c .before .before .before .before .if2 .left)))
-    (λ c. rw (← c .before .before .before .before .before .before .before .before .repeats .ensures, ← c .before .before .before .before .before .before .over .ensures, ← c .taken .ensures, c .before .before .before .before .before .before .before .if1 .left, c .before .before .before .before .before .if2 .left, eq-eqb _ _ (c .before .before .before .before .if3 .left), eq-eqb _ _ (c .before .before .before .if4 .left), eq-eqb _ _ (c .before .before .if5 .left))))
+    (λ c. rw (← c .before .before .before .before .before .before .before .repeats .ensures, ← c .before .before .before .before .before .before .over .ensures, ← c .before .before .before .before .before .suits .ensures, ← c .refused3 .ensures, c .before .before .before .before .if1 .left, c .before .before .before .if2 .left, eq-eqb _ _ (c .before .before .if3 .left), c .before .if4 .taken))
+    (λ c. omega (arith, one-word (c .before .before .before .before .before .before .before .before .before .before .args .kind) (c .before .before .before .before .before .before .before .before .before .before .args .words .now) (sym (c .before .before .before .before .before .suits .ensures) ∙ not-false _ (c .before .if4 .left))))
+    (λ c κs. (c .before .before .before .before .before .before .before .before .before .before .pre, open-within (c .before .before .before .before .before .before .before .before .before .before .args .r) (c .before .before .before .before .before .before .before .before .before .before .pre) (sym (c .before .before .before .before .before .before .over .ensures) ∙ c .before .before .before .if2 .left)))
+    (λ c. rw (← c .before .before .before .before .before .before .before .before .repeats .ensures, ← c .before .before .before .before .before .before .before .over .ensures, ← c .before .before .before .before .before .before .suits .ensures, ← c .taken .ensures, c .before .before .before .before .before .if1 .left, c .before .before .before .before .if2 .left, eq-eqb _ _ (c .before .before .before .if3 .left), c .before .before .if4 .left)))
