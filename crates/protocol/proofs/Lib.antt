@@ -1,0 +1,6 @@
+pub mod Texts
+pub mod Verdicts
+pub mod Suits
+pub mod Bounds
+pub mod FitsLaws
+pub mod FitsBounds
