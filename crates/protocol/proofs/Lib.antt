@@ -4,3 +4,5 @@ pub mod Suits
 pub mod Bounds
 pub mod FitsLaws
 pub mod FitsBounds
+pub mod Places
+pub mod FitsPlaces

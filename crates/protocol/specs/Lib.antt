@@ -5,3 +5,4 @@ pub mod Rounds
 pub mod RoundsLaws
 pub mod Bounds
 pub mod Fits
+pub mod Places
