@@ -48,10 +48,12 @@ module _ {S : Type 0} (R : Rounds S) (Least : S → Type 0) (L : RoundsLaws R Le
   begins-map (finish (stops y p)) h = tt
   begins-map (finish (fails k d)) h = tt
 
-  pub turn-map : (es : List Exchange) (p : R .Position) (m : Ask (Ending (R .Position))) → Begins m × wp es m (Ends R Least (L .At) s (R .f p)) → Begins (mapText f m) × wp es (mapText f m) (Ends Q IsSimplex At j (Q .f (f p)))
+  pub turn-map : (es : List Exchange) (p : R .Position) (m : Ask (Ending (R .Position))) → Begins m × wp es m (Ends R Least (L .At) s (R .f p))
+      → Begins (mapText f m) × wp es (mapText f m) (Ends Q IsSimplex At j (Q .f (f p)))
   turn-map es p m h = (
     begins-map m (h .0),
-    subst (λ (v : Float). wp es (mapText f m) (Ends Q IsSimplex At j v)) (f-is p) (wp-text es m (Ends R Least (L .At) s (R .f p)) (Ends Q IsSimplex At j (R .f p)) (ends-map (R .f p)) (h .1)),
+    subst (λ (v : Float). wp es (mapText f m) (Ends Q IsSimplex At j v)) (f-is p)
+        (wp-text es m (Ends R Least (L .At) s (R .f p)) (Ends Q IsSimplex At j (R .f p)) (ends-map (R .f p)) (h .1)),
   )
 
   pub opening-map : (m : Ask (Ending (R .Position))) → Opening R Least (L .At) s m → Opening Q IsSimplex At j (mapText f m)
@@ -105,13 +107,17 @@ module _ (A : Rounds SimplexOptions) (B : Rounds (Bool × GradientOptions)) (LA 
   stop-law (lbfgs o) es (inl p) y a e = absurd a
   stop-law (lbfgs o) es (inr p) y a e = LB .stop-ok (true, o) es p y a (stop-map inr (B .tests p) y e)
 
-  restart-law : (j : Job) (es : List Exchange) (p : R .Position) (m : Ask (Ending (R .Position))) → At j es p → testsOf A B p ≡ restart m → Begins m × wp es m (Ends R IsSimplex At j (fOf A B p))
-  restart-law (simplex o) es (inl p) m a e = restart-map A (λ o. Unit {0}) LA R inl (λ p. refl) (λ p. refl) At o (simplex o) (λ es p a. a) (λ i. i) es p (A .tests p) m e (λ n i. LA .restart-ok o es p n a i)
+  restart-law : (j : Job) (es : List Exchange) (p : R .Position) (m : Ask (Ending (R .Position))) → At j es p → testsOf A B p ≡ restart m
+      → Begins m × wp es m (Ends R IsSimplex At j (fOf A B p))
+  restart-law (simplex o) es (inl p) m a e =
+      restart-map A (λ o. Unit {0}) LA R inl (λ p. refl) (λ p. refl) At o (simplex o) (λ es p a. a) (λ i. i) es p (A .tests p) m e (λ n i. LA .restart-ok o es p n a i)
   restart-law (simplex o) es (inr p) m a e = absurd a
   restart-law (bfgs o) es (inl p) m a e = absurd a
-  restart-law (bfgs o) es (inr p) m a e = restart-map B (λ s. ⊥) LB R inr (λ p. refl) (λ p. refl) At (false, o) (bfgs o) (λ es p a. a) (λ i. i) es p (B .tests p) m e (λ n i. LB .restart-ok (false, o) es p n a i)
+  restart-law (bfgs o) es (inr p) m a e =
+      restart-map B (λ s. ⊥) LB R inr (λ p. refl) (λ p. refl) At (false, o) (bfgs o) (λ es p a. a) (λ i. i) es p (B .tests p) m e (λ n i. LB .restart-ok (false, o) es p n a i)
   restart-law (lbfgs o) es (inl p) m a e = absurd a
-  restart-law (lbfgs o) es (inr p) m a e = restart-map B (λ s. ⊥) LB R inr (λ p. refl) (λ p. refl) At (true, o) (lbfgs o) (λ es p a. a) (λ i. i) es p (B .tests p) m e (λ n i. LB .restart-ok (true, o) es p n a i)
+  restart-law (lbfgs o) es (inr p) m a e =
+      restart-map B (λ s. ⊥) LB R inr (λ p. refl) (λ p. refl) At (true, o) (lbfgs o) (λ es p a. a) (λ i. i) es p (B .tests p) m e (λ n i. LB .restart-ok (true, o) es p n a i)
 
   round-law : (j : Job) (es : List Exchange) (p : R .Position) → At j es p → Begins (roundOf A B p) × wp es (roundOf A B p) (Ends R IsSimplex At j (fOf A B p))
   round-law (simplex o) es (inl p) a = turn-map A (λ o. Unit {0}) LA R inl (λ p. refl) (λ p. refl) At o (simplex o) (λ es p a. a) (λ i. i) es p (A .round p) (LA .round-ok o es p a)
