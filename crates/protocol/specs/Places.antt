@@ -52,6 +52,7 @@ pub data Held (Place : Type 0) : Type 0 where
   at : Place → Held Place
   closed : Reply → Held Place
 
+-- the record: as `Kept` of the texts, with what is held for the state
 pub record Placed (Place : Type 0) : Type 0 where
   pub limits : Limits
   pub last : ℕ
@@ -62,9 +63,11 @@ pub record Placed (Place : Type 0) : Type 0 where
 -- ---- the engine of the places: that of the texts (`Rounds`), with turns for texts
 
 module _ (R : Rounds Job) (S : Steps R) where
+  -- where a step of this fit leads
   abbrev pub Turns : Type 0
   Turns = Turn (S .Place) (R .Position)
 
+  -- the head of a round, after v accepted values
   abbrev pub allowedTurn : Bool → Bool → R .Position → Turns
   allowedTurn true b p = ends (stops MaxIterations p)
   allowedTurn false true p = ends (stops MaxFevals p)
@@ -75,12 +78,14 @@ module _ (R : Rounds Job) (S : Steps R) where
   headedTurn l v (stop y) p = ends (stops y p)
   headedTurn l v (restart m) p = S .again p
 
+  -- the turn goes on through a head
   abbrev pub settleTurn : Limits → ℕ → Turns → Turns
   settleTurn l v (still s) = still s
   settleTurn l v (ends (atHead p)) = headedTurn l v (R .tests p) p
   settleTurn l v (ends (stops y p)) = ends (stops y p)
   settleTurn l v (ends (fails k d)) = ends (fails k d)
 
+  -- the reply and the record, after n accepted answers, v values and g gradients
   abbrev pub placed : Limits → ℕ → ℕ → ℕ → Held (S .Place) → Placed (S .Place)
   placed l n v g h = record { limits = l; last = n; values = v; gradients = g; held = h }
 
@@ -94,10 +99,12 @@ module _ (R : Rounds Job) (S : Steps R) where
   -- never met: no opening, round or restart is at a head before it has asked
   putTurn l n v g (ends (atHead p)) = close l n v g (refused 1 0)
 
+  -- the question or the outcome that stands
   abbrev pub standingAt : ℕ → Held (S .Place) → Reply
   standingAt n (at s) = ask (questionAt R n (S .kind s) (S .point s))
   standingAt n (closed y) = y
 
+  -- an answer that suits is counted, and makes its step
   abbrev pub acceptAt : Placed (S .Place) → S .Place → Answer → Reply × Placed (S .Place)
   acceptAt r s a =
       let v = r .values + ofKind Value (S .kind s) in
@@ -110,25 +117,30 @@ module _ (R : Rounds Job) (S : Steps R) where
       cond (not (eqb (a .number) (suc (r .last)))) (refused 16 0, r)
       (cond (not (eqb (a .kind) (letter (S .kind s)) && eqb (length (a .words)) (wanted (S .kind s) (S .point s)))) (refused 17 0, r) (acceptAt r s a))
 
+  -- a repeat carries the number last accepted; before the first acceptance no number is one
   abbrev pub answerAt : Placed (S .Place) → Answer → Reply × Placed (S .Place)
   answerAt r a = cond (not (eqb (r .last) 0) && eqb (a .number) (r .last)) (standingAt (r .last) (r .held), r) (freshAt r (r .held) a)
 
+  -- an allowance above 1,000,000 is refused with 2, before all that the opening refuses
   abbrev pub begunTurn : Fit → Turns
   begunTurn f = cond (excess R (f .maxIter) || excess R (f .maxFevals)) (ends (fails 2 0)) (S .opening (f .job) (f .x0))
 
   abbrev pub startAt : Fit → Reply × Placed (S .Place)
   startAt f = putTurn (limitsOf f) 0 0 0 (begunTurn f)
 
+  -- the engine whose record holds a place
   abbrev pub engineOfPlaces : Engine
   engineOfPlaces = record { Record = Placed (S .Place); start = startAt; answer = answerAt }
 
 -- ---- two such records as one: a fit is at a place of the one or of the other
 
+-- a turn with its place and its position mapped
 abbrev pub mapTurn : {S T P Q : Type 0} → (P → Q) → (S → T) → Turn S P → Turn T Q
 mapTurn f g (still s) = still (g s)
 mapTurn f g (ends o) = ends (mapEnding f o)
 
 module _ (A : Rounds SimplexOptions) (B : Rounds (Bool × GradientOptions)) (SA : Steps A) (SB : Steps B) where
+  -- a place of one of the two
   abbrev pub Places : Type 0
   Places = SA .Place ⊎ SB .Place
 
@@ -144,6 +156,7 @@ module _ (A : Rounds SimplexOptions) (B : Rounds (Bool × GradientOptions)) (SA 
   stepOf (inl s) w = mapTurn inl inl (SA .step s w)
   stepOf (inr s) w = mapTurn inr inr (SB .step s w)
 
+  -- the turns are those of the job's fit, or of the one that the place or the position is of
   abbrev pub openingTurn : Job → List Float → Turn Places (Positions A B)
   openingTurn (simplex o) x = mapTurn inl inl (SA .opening o x)
   openingTurn (bfgs o) x = mapTurn inr inr (SB .opening (false, o) x)
@@ -157,5 +170,6 @@ module _ (A : Rounds SimplexOptions) (B : Rounds (Bool × GradientOptions)) (SA 
   roundTurn (inl p) = mapTurn inl inl (SA .round p)
   roundTurn (inr p) = mapTurn inr inr (SB .round p)
 
+  -- the steps of the fit of any job
   abbrev pub fitsSteps : Steps (fits A B)
   fitsSteps = record { Place = Places; kind = kindOf; point = pointOf; step = stepOf; opening = openingTurn; again = againTurn; round = roundTurn }
