@@ -3,3 +3,4 @@ pub mod Claim
 pub mod Ask
 pub mod Rounds
 pub mod RoundsLaws
+pub mod EngineLaws
