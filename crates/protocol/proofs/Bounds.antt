@@ -1,5 +1,5 @@
 -- The laws of `Costs`, and that a fit that owes `BoundLaws` puts no more questions of the kind than the bound: `questions-at-most`. Assumes nothing.
-use mathlib.Core.Path.{_≡_, refl, sym, _∙_, subst, subst₂}
+use mathlib.Core.Path.{_≡_, refl, sym, _∙_, ap, subst, subst₂}
 use mathlib.Core.Logic.{_⊎_, inl, inr, ⊎-elim}
 use mathlib.Core.List.{List, [], _∷_, _++_}
 use mathlib.Core.Bool.{Bool, true, false, _||_, cond}
@@ -15,7 +15,7 @@ use Rattle.protocol.specs.Claim.{suits, accepted, ofKind, Exchange, ques
 use Rattle.protocol.specs.Ask.{Ask, finish, query, _>>=_}
 use Rattle.protocol.specs.Rounds.{Ending, atHead, stops, fails, Verdict, goOn, stop, restart, Rounds, reached, limitsOf, openAt, Kept, questionAt, kept, settle, headed, allowed, put, answerTo, begun, excess, engine}
 use Rattle.protocol.specs.Bounds.{Costs, Keeps, ofBoth, BoundLaws, questionsOf, QuestionsAtMost}
-use Rattle.protocol.proofs.Suits.{taken, unchanged}
+use Rattle.protocol.proofs.RoundsCalls.{taken, unmoved}
 
 -- ---- what a text costs
 
@@ -145,7 +145,9 @@ module _ (R : Rounds Job) (κ : Kind) (bound : ℕ) (f : Fit) (N : BoundLaws R �
             subst (λ (z : Reply × Kept (R .Position)). Ok (z .0) (z .1) (qs ++ questionIn (z .0))) (sym (taken R (limitsOf f) n v g j x c a t))
             (put-ok (suc n) v' g' (settle R (limitsOf f) v' (c (a .words))) qs (settled v' g' (c (a .words)) (subst (λ (i : ℕ). Within i (c (a .words))) more (k .1 (a .words)))) (e ∙ more)
             (subst (λ (i : ℕ). i ≤ bound) more (k .0)))
-        go false t = inl (record { n = n; v = v; g = g; j = j; x = x; c = c; record-is = sym (unchanged R (limitsOf f) n v g j x c a t); standing-is = refl; count = e; keeps = k })
+        go false t =
+            let i = ap (λ (z : Reply × Kept (R .Position)). z .1) (unmoved R r a tt t) in
+            inl (record { n = n; v = v; g = g; j = j; x = x; c = c; record-is = sym i; standing-is = refl; count = e; keeps = k })
 
   give-ok : (d : Dialogue (Kept (R .Position))) (a : Answer) → Fine d → Fine (give (engine R) d a)
   give-ok d a (inl o) =

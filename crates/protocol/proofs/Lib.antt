@@ -1,6 +1,11 @@
 pub mod Texts
+pub mod Replies
+pub mod EngineOne
+pub mod EngineClaim
+pub mod RoundsCalls
+pub mod RoundsGood
+pub mod RoundsClaim
 pub mod Verdicts
-pub mod Suits
 pub mod Bounds
 pub mod FitsLaws
 pub mod FitsBounds

@@ -3,6 +3,7 @@ pub mod Claim
 pub mod Ask
 pub mod Rounds
 pub mod RoundsLaws
+pub mod EngineLaws
 pub mod Bounds
 pub mod Fits
 pub mod Places
