@@ -5,3 +5,5 @@ pub mod EngineClaim
 pub mod RoundsCalls
 pub mod RoundsGood
 pub mod RoundsClaim
+pub mod Resume
+pub mod Follow

@@ -4,3 +4,5 @@ pub mod Ask
 pub mod Rounds
 pub mod RoundsLaws
 pub mod EngineLaws
+pub mod Resume
+pub mod Follow
