@@ -5,6 +5,8 @@ pub mod EngineClaim
 pub mod RoundsCalls
 pub mod RoundsGood
 pub mod RoundsClaim
+pub mod Resume
+pub mod Follow
 pub mod Verdicts
 pub mod Bounds
 pub mod FitsLaws

@@ -7,10 +7,14 @@ use lib.Dec.{eqb}
 use lib.ListN.{length}
 use Rattle.protocol.specs.declared.Kind.the-variants.{Value, Gradient}
 use Rattle.protocol.specs.Protocol.{letter, Answer, Reply, refused, Job, Fit}
-use Rattle.protocol.specs.Claim.{wanted, ofKind}
+use Rattle.protocol.specs.Claim.{wanted, ofKind, IsSimplex, Claim}
 use Rattle.protocol.specs.Ask.{Ask, finish, query}
-use Rattle.protocol.specs.Rounds.{Ending, atHead, stops, fails, Verdict, goOn, stop, restart, Rounds, Limits, reached, State, openAt, over, Kept, kept, allowed, headed, settle, put, standing, accept, fresh, answerTo, excess, begun}
-use Rattle.protocol.specs.Places.{still, ends, text, Steps, StepsLaws, Held, at, closed, Placed, Turns, allowedTurn, headedTurn, settleTurn, putTurn, standingAt, acceptAt, freshAt, answerAt, begunTurn}
+use Rattle.protocol.specs.Rounds.{Ending, atHead, stops, fails, Verdict, goOn, stop, restart, Rounds, Limits, reached, limitsOf, State, openAt, over, Kept, kept, allowed, headed, settle, put, standing, accept, fresh, answerTo, excess, begun, engine}
+use Rattle.protocol.specs.RoundsLaws.{RoundsLaws}
+use Rattle.protocol.specs.Places.{still, ends, text, Steps, StepsLaws, Held, at, closed, Placed, Turns, allowedTurn, headedTurn, settleTurn, putTurn, standingAt, acceptAt, freshAt, answerAt, begunTurn, startAt, engineOfPlaces}
+use Rattle.protocol.specs.Follow.{Follows}
+use Rattle.protocol.proofs.RoundsClaim.{claim-of-rounds}
+use Rattle.protocol.proofs.Follow.{claim-follows}
 
 module _ (R : Rounds Job) (S : Steps R) (L : StepsLaws R S) where
   abbrev words : Turns R S → Ask (Ending (R .Position))
@@ -120,3 +124,17 @@ module _ (R : Rounds Job) (S : Steps R) (L : StepsLaws R S) where
       go : (b : Bool) → words (cond b (ends (fails 2 0)) (S .opening (f .job) (f .x0))) ≡ cond b (finish (fails 2 0)) (R .opening (f .job) (f .x0))
       go true = refl
       go false = L .opens (f .job) (f .x0)
+
+  pub places-follow : Follows (Placed (S .Place)) (Kept (R .Position)) (startAt R S) (answerAt R S) (engine R .start) (engine R .answer)
+  places-follow = record {
+    Related = λ r s. view r ≡ s;
+    starts = λ f.
+        let h = subst (λ (m : Ask (Ending (R .Position))). Same (startAt R S f) (put R (limitsOf f) 0 0 0 m)) (begun-text f) (put-view (limitsOf f) 0 0 0 (begunTurn R S f)) in
+        (h .0, λ n. h .1);
+    answers = λ r s a w e. subst (λ (z : Kept (R .Position)). Same (answerAt R S r a) (answerTo R z a)) e (answer-view r a);
+    stays = λ r s a w e. subst (λ (z : Kept (R .Position)). answerTo R z a .1 ≡ z → answerAt R S r a .1 ≡ r) e (stays-answer r a);
+  }
+
+  -- a record of places has the claim of the texts
+  pub claim-of-places : RoundsLaws R IsSimplex → Claim (engineOfPlaces R S)
+  claim-of-places M = claim-follows (Placed (S .Place)) (Kept (R .Position)) (startAt R S) (answerAt R S) (engine R .start) (engine R .answer) places-follow (claim-of-rounds R M)

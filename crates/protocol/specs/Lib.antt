@@ -4,6 +4,8 @@ pub mod Ask
 pub mod Rounds
 pub mod RoundsLaws
 pub mod EngineLaws
+pub mod Resume
+pub mod Follow
 pub mod Bounds
 pub mod Fits
 pub mod Places
