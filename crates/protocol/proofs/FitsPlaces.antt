@@ -1,4 +1,4 @@
--- The laws of two first-order records as one, out of the laws of the two: `fits-steps-laws`. Assumes nothing.
+-- The laws of two first-order records as one, out of the laws of the two, and its claim: `fits-steps-laws`, `claim-of-fits`. Assumes nothing.
 use mathlib.Core.Path.{_≡_, refl, sym, _∙_, ap, fun-ext}
 use mathlib.Core.Logic.{inl, inr}
 use mathlib.Core.List.{List}
@@ -8,11 +8,15 @@ use Rattle.protocol.specs.declared.Kind.{Kind}
 use Rattle.protocol.specs.declared.SimplexOptions.{SimplexOptions}
 use Rattle.protocol.specs.declared.GradientOptions.{GradientOptions}
 use Rattle.protocol.specs.Protocol.{Job, simplex, bfgs, lbfgs}
+use Rattle.protocol.specs.Claim.{Claim}
 use Rattle.protocol.specs.Ask.{Ask, query, _>>=_}
 use Rattle.protocol.specs.Rounds.{Ending, Verdict, goOn, stop, restart, Rounds}
+use Rattle.protocol.specs.RoundsLaws.{RoundsLaws}
 use Rattle.protocol.specs.Fits.{mapText, mapVerdict, Positions, fits}
-use Rattle.protocol.specs.Places.{Turn, still, ends, text, Steps, StepsLaws, mapTurn, Places, kindOf, pointOf, stepOf, openingTurn, againTurn, roundTurn, fitsSteps}
+use Rattle.protocol.specs.Places.{Turn, still, ends, text, Steps, StepsLaws, mapTurn, Places, kindOf, pointOf, stepOf, openingTurn, againTurn, roundTurn, fitsSteps, engineOfPlaces}
 use Rattle.protocol.proofs.Verdicts.{stop≢restart, go-on≢restart, restart-inj}
+use Rattle.protocol.proofs.FitsLaws.{fits-laws}
+use Rattle.protocol.proofs.Places.{claim-of-places}
 
 -- ---- one record's laws, under maps of its positions and places
 
@@ -59,3 +63,7 @@ module _ (A : Rounds SimplexOptions) (B : Rounds (Bool × GradientOptions)) (SA 
 
   pub fits-steps-laws : StepsLaws (fits A B) (fitsSteps A B SA SB)
   fits-steps-laws = record { toDo = toDo; follows = follows; opens = opens; restarts = restarts; rounds = rounds }
+
+  -- simplex and gradient fits, each with a record of places that follows its texts, have the claim as one engine
+  pub claim-of-fits : RoundsLaws A (λ o. Unit {0}) → RoundsLaws B (λ s. ⊥) → Claim (engineOfPlaces (fits A B) (fitsSteps A B SA SB))
+  claim-of-fits MA MB = claim-of-places (fits A B) (fitsSteps A B SA SB) fits-steps-laws (fits-laws A B MA MB)
