@@ -3,3 +3,9 @@ pub mod Claim
 pub mod Ask
 pub mod Rounds
 pub mod RoundsLaws
+pub mod EngineLaws
+pub mod Resume
+pub mod Follow
+pub mod Bounds
+pub mod Fits
+pub mod Places

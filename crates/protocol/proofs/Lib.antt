@@ -1,0 +1,15 @@
+pub mod Texts
+pub mod Replies
+pub mod EngineOne
+pub mod EngineClaim
+pub mod RoundsCalls
+pub mod RoundsGood
+pub mod RoundsClaim
+pub mod Resume
+pub mod Follow
+pub mod Verdicts
+pub mod Bounds
+pub mod FitsLaws
+pub mod FitsBounds
+pub mod Places
+pub mod FitsPlaces
