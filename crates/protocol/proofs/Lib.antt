@@ -7,3 +7,4 @@ pub mod RoundsGood
 pub mod RoundsClaim
 pub mod Resume
 pub mod Follow
+pub mod Counts

@@ -6,3 +6,4 @@ pub mod RoundsLaws
 pub mod EngineLaws
 pub mod Resume
 pub mod Follow
+pub mod Counts
