@@ -7,7 +7,7 @@ use Prim.Native.Nat.{ℕ, suc}
 use lib.Dec.{eqb}
 use lib.ListN.{length}
 use Rattle.protocol.specs.Protocol.{Question, Answer, Result, Outcome, fitted, Reply, ask, ended, refused, Fit, Engine}
-use Rattle.protocol.specs.Claim.{suits, accepted, Exchange, exchange, questionIn, F64s, GivenF64s, Dialogue, begin, given, give, giveAll, run, Started, Brings, Taken, Numbered, lastAccepted, repeats, turnedAway, otherwise, OpensWith, OfOne, OfCall}
+use Rattle.protocol.specs.Claim.{suits, accepted, Exchange, exchange, questionIn, F64s, GivenF64s, Dialogue, begin, given, give, giveAll, run, Started, Brings, Taken, Numbered, lastAccepted, repeats, turnedAway, OpensWith, OfOne, OfCall}
 use Rattle.protocol.specs.EngineLaws.{EngineLaws}
 use Rattle.protocol.proofs.Replies.{ask≢ended, ended≢refused}
 
@@ -61,19 +61,16 @@ pub more-outcomes : (y z : Reply) (ys : List Reply) → Outcomes y ys → ((x : 
 more-outcomes y z ys h k x m =
     ⊎-elim (h x) (λ i. ⊎-elim (λ e. k x (sym e)) (λ j. absurd (List·Memᴰ·not-nil j)) (List·Memᴰ·cases-cons i)) (List·Memᴰ·append-cases ys m)
 
--- what is replied to an answer that is not accepted is an outcome only where that stands
-pub otherwise-ended : (y : Reply) (es : List Exchange) (a : Answer) (o : Outcome) → otherwise y es a ≡ ended o → y ≡ ended o
-otherwise-ended y es a o e = go (repeats (lastAccepted es) a) y e
+-- what is replied to an answer that is not accepted, a repeat or not, is an outcome only where that stands
+pub otherwise-ended : (repeat : Bool) (y : Reply) (a : Answer) (o : Outcome) → cond repeat y (turnedAway y a) ≡ ended o → y ≡ ended o
+otherwise-ended true y a o e = e
+otherwise-ended false (ask q) a o e = absurd (neither (eqb (a .number) (q .number)) e)
   where
-    late : (b : Bool) → cond b (refused 17 0) (refused 16 0) ≡ ended o → ⊥
-    late true e = ended≢refused (sym e)
-    late false e = ended≢refused (sym e)
-
-    go : (b : Bool) (z : Reply) → cond b z (turnedAway z a) ≡ ended o → z ≡ ended o
-    go true z e = e
-    go false (ask q) e = absurd (late (eqb (a .number) (q .number)) e)
-    go false (ended p) e = absurd (ended≢refused (sym e))
-    go false (refused k d) e = absurd (ended≢refused (sym e))
+    neither : (b : Bool) → cond b (refused 17 0) (refused 16 0) ≡ ended o → ⊥
+    neither true e = ended≢refused (sym e)
+    neither false e = ended≢refused (sym e)
+otherwise-ended false (ended p) a o e = absurd (ended≢refused (sym e))
+otherwise-ended false (refused k d) a o e = absurd (ended≢refused (sym e))
 
 -- ---- along one list
 
@@ -87,7 +84,7 @@ module _ (E : Engine) (L : EngineLaws E) where
       record {
         good = subst (λ (z : E .Record). L .Good f (d .exchanges) (d .standing) z) (sym (L .keeps f (d .exchanges) (d .standing) (d .recordNow) a (h .good) e)) (h .good);
         outcomes = more-outcomes (d .standing) (E .answer (d .recordNow) a .0) (d .replies) (h .outcomes)
-            (λ x i. otherwise-ended (d .standing) (d .exchanges) a (fitted x) (sym (L .replies f (d .exchanges) (d .standing) (d .recordNow) a (h .good) e) ∙ i));
+            (λ x i. otherwise-ended (repeats (lastAccepted (d .exchanges)) a) (d .standing) a (fitted x) (sym (L .replies f (d .exchanges) (d .standing) (d .recordNow) a (h .good) e) ∙ i));
       }
 
   fine-taken : (f : Fit) (q : Question) (r : E .Record) (qs : List Question) (es : List Exchange) (ys : List Reply) (a : Answer) → F64s (a .words)

@@ -8,7 +8,8 @@ use Rattle.protocol.specs.Protocol.{Question, Answer, Result, fitted, Re
 use Rattle.protocol.specs.Claim.{F64s, GivenF64s, accepted, Exchange, exchange, questionIn, Dialogue, given, give, giveAll, begin, run, NotRefused, Started, Brings, Taken, Numbered, otherwise, ByPointAlone, OpensWith, OfOne, OfCall, Claim}
 use Rattle.protocol.specs.Follow.{one, other, Follows}
 
-module _ (R S : Type 0) (start : Fit → Reply × R) (answer : R → Answer → Reply × R) (start' : Fit → Reply × S) (answer' : S → Answer → Reply × S) (F : Follows R S start answer start' answer') where
+module _ (R S : Type 0) (start : Fit → Reply × R) (answer : R → Answer → Reply × R) (start' : Fit → Reply × S) (answer' : S → Answer → Reply × S)
+    (F : Follows R S start answer start' answer') where
   abbrev E : Engine
   E = one R S start answer start' answer'
 

@@ -13,3 +13,4 @@ pub mod FitsLaws
 pub mod FitsBounds
 pub mod Places
 pub mod FitsPlaces
+pub mod Counts

@@ -9,3 +9,4 @@ pub mod Follow
 pub mod Bounds
 pub mod Fits
 pub mod Places
+pub mod Counts
