@@ -3,3 +3,5 @@ pub mod Claim
 pub mod Ask
 pub mod Rounds
 pub mod RoundsLaws
+pub mod Example
+pub mod Wrong

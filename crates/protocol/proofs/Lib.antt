@@ -1,0 +1,3 @@
+pub mod ExampleLaws
+pub mod NotVacuous
+pub mod Wrong
