@@ -135,7 +135,7 @@ is-nan nan h = refl
 is-nan (inf s) h = absurd h
 is-nan (fin s m e) h = absurd h
 
-finite-number : (x : Float) → Finite x → Number x
+pub finite-number : (x : Float) → Finite x → Number x
 unfolding finiteOf isNan
 finite-number nan h = absurd h
 finite-number (inf s) h = tt

@@ -1,25 +1,28 @@
--- The example fit satisfies the laws of rounds: `example-laws`. Its value is told for its point, finite, and the least told, of every job. Assumes nothing.
+-- The example fit satisfies the laws of rounds (`example-laws`), so its engine the claim (`example-claim`). Its value is told for its point, finite, and the least told, of every job. Assumes nothing.
 use mathlib.Core.Path.{_≡_, refl, sym, ap, _∙_, subst}
 use mathlib.Core.Logic.{⊎-elim}
-use mathlib.Core.List.{List, [], _∷_, _++_, List·Memᴰ·head, List·Memᴰ·not-nil, List·Memᴰ·eq-of-singleton, List·Memᴰ·append-cases, Memᴰ·append-left, Memᴰ·append-right}
+use mathlib.Core.List.{List, [], _∷_, _++_, List·Memᴰ·head, List·Memᴰ·not-nil, List·Memᴰ·eq-of-singleton, List·Memᴰ·append-cases, Memᴰ·append-right}
 use mathlib.Core.Bool.{Bool, true, false, cond}
 use Prim.Native.Nat.{ℕ}
 use native.Mathlib.Omega.{arith}
-use lib.Dec.{T, not-T, leb}
+use lib.Dec.{T, leb}
 use lib.ListN.{length, getD}
 use lib.Ieee.{Float, nan, inf, fin, lt}
 use Rattle.float.specs.Binary64.{Number, NotAbove}
 use Rattle.float.specs.Values.{Finite, finiteOf}
-use Rattle.float.proofs.Order.{lt-irrefl, lt→le, le→not-above, lt-number-r, not-above-trans}
+use Rattle.float.proofs.Order.{lt→le, le→not-above, lt-number-r, not-above-trans}
 use Rattle.protocol.specs.declared.Kind.the-variants.{Value}
 use Rattle.protocol.specs.declared.Termination.{Termination}
 use Rattle.protocol.specs.declared.Termination.the-variants.{SimplexTolerance}
 use Rattle.protocol.specs.Protocol.{readOf, Job}
-use Rattle.protocol.specs.Claim.{Exchange, Told, LeastTold, IsSimplex}
+use Rattle.protocol.specs.Claim.{Exchange, Told, LeastTold, IsSimplex, Claim}
 use Rattle.protocol.specs.Ask.{Ask, _>>=_, heardAt, wp}
-use Rattle.protocol.specs.Rounds.{Ending, atHead, fails, Verdict, goOn, stop, restart}
+use Rattle.protocol.specs.Rounds.{Ending, atHead, fails, Verdict, goOn, stop, restart, engine}
 use Rattle.protocol.specs.RoundsLaws.{Own, Begins, Ends, Opens, Opening, RoundsLaws}
 use Rattle.protocol.specs.Example.{Head, halved, opening, next, round, example}
+use Rattle.protocol.proofs.Texts.{grow-one}
+use Rattle.protocol.proofs.Replies.{true-T, not-above-self}
+use Rattle.protocol.proofs.RoundsClaim.{claim-of-rounds}
 
 -- ---- what is read of a word
 
@@ -56,9 +59,6 @@ module _ (es : List Exchange) (n : ℕ) (y w : List Float) where
   abbrev heard : Float
   heard = readOf (getD w 0 nan)
 
-  told-still : (x : List Float) (v : Float) → Told es x v → Told more x v
-  told-still x v t = (t .0, Memᴰ·append-left _ (t .1), t .2, t .3, t .4)
-
   told-now : length w ≡ 1 → Finite heard → Told more y heard
   told-now l h =
       (heardAt n Value y w, Memᴰ·append-right es (List·Memᴰ·head refl), refl, refl, only w l ∙ ap (λ v. v ∷ []) (sym (read-own (getD w 0 nan) h)))
@@ -79,9 +79,6 @@ module _ (es : List Exchange) (n : ℕ) (y w : List Float) where
 abbrev At : Job → List Exchange → Head → Type 0
 At j es p = Finite (p .f) × Told es (p .x) (p .f) × LeastTold es (p .f)
 
-not-above-own : (v : Float) → NotAbove v v
-not-above-own v = not-T (lt v v) (lt-irrefl v)
-
 lt-not-above : (v f : Float) → T (lt v f) → NotAbove v f
 lt-not-above v f h = le→not-above v f (lt→le v f h)
 
@@ -100,8 +97,8 @@ opening-ok j (u ∷ x) = λ n w l fs. go n w l (finiteOf (readOf (getD w 0 nan))
     go : (n : ℕ) (w : List Float) → length w ≡ 1 → (b : Bool) → finiteOf (readOf (getD w 0 nan)) ≡ b
         → Opens example IsSimplex At j (more [] n (u ∷ x) w) (cond b (atHead (record { x = u ∷ x; f = readOf (getD w 0 nan); iterations = 0 })) (fails 20 0))
     go n w l true e =
-        let finite : Finite (readOf (getD w 0 nan)) = subst T (sym e) tt in
-        (finite, told-now [] n (u ∷ x) w l finite, least-now [] n (u ∷ x) w (readOf (getD w 0 nan)) (none-told _) (not-above-own _))
+        let finite : Finite (readOf (getD w 0 nan)) = true-T _ e in
+        (finite, told-now [] n (u ∷ x) w l finite, least-now [] n (u ∷ x) w (readOf (getD w 0 nan)) (none-told _) (not-above-self _))
     go n w l false e = tt
 
 round-ok : (j : Job) (es : List Exchange) (p : Head) → At j es p → Begins (round p) × wp es (round p) (Ends example IsSimplex At j (p .f))
@@ -112,12 +109,12 @@ round-ok j es p at = (tt, λ n w l fs. go n w l (lt (readOf (getD w 0 nan)) (p .
         → Ends example IsSimplex At j (p .f) (more es n (halved (p .x)) w) (atHead (next p (halved (p .x)) (readOf (getD w 0 nan)) b))
     go n w l true e =
         let v : Float = readOf (getD w 0 nan) in
-        let less : T (lt v (p .f)) = subst T (sym e) tt in
+        let less : T (lt v (p .f)) = true-T _ e in
         let finite : Finite v = read-below (getD w 0 nan) (p .f) less in
         let below : NotAbove v (p .f) = lt-not-above v (p .f) less in
-        ((finite, told-now es n (halved (p .x)) w l finite, least-now es n (halved (p .x)) w v (least-below es (p .f) v (lt-number-r v (p .f) less) below (at .2)) (not-above-own v)), below)
+        ((finite, told-now es n (halved (p .x)) w l finite, least-now es n (halved (p .x)) w v (least-below es (p .f) v (lt-number-r v (p .f) less) below (at .2)) (not-above-self v)), below)
     go n w l false e =
-        ((at .0, told-still es n (halved (p .x)) w (p .x) (p .f) (at .1), least-now es n (halved (p .x)) w (p .f) (at .2) (rw e tt)), not-above-own (p .f))
+        ((at .0, grow-one es (heardAt n Value (halved (p .x)) w) (p .x) (p .f) (at .1), least-now es n (halved (p .x)) w (p .f) (at .2) (rw e tt)), not-above-self (p .f))
 
 stop-ok : (b : Bool) (y : Termination) → cond {A = Verdict Head} b (stop SimplexTolerance) goOn ≡ stop y → Own y
 stop-ok true y e = let own : SimplexTolerance ≡ y = cc in subst Own own (λ z. z)
@@ -137,3 +134,6 @@ example-laws =
       restart-ok = λ j es p m at e. absurd (no-restart (leb 3 (p .iterations)) m e);
       round-ok = round-ok;
     }
+
+pub example-claim : Claim (engine example)
+example-claim = claim-of-rounds example example-laws

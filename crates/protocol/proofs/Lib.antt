@@ -1,3 +1,10 @@
+pub mod Texts
+pub mod Replies
+pub mod EngineOne
+pub mod EngineClaim
+pub mod RoundsCalls
+pub mod RoundsGood
+pub mod RoundsClaim
 pub mod ExampleLaws
 pub mod NotVacuous
 pub mod Wrong

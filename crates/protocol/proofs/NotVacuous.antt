@@ -1,4 +1,4 @@
--- The claim is not vacuous: lists of answers to the example fit meet every hypothesis of both its parts. Assumes nothing.
+-- The claim is not vacuous: lists of answers to the example fit meet every hypothesis of both its parts, and so both hold of them. Assumes nothing.
 use mathlib.Core.Path.{_≡_, refl, sym, _∙_, subst}
 use mathlib.Core.Logic.{⊎-elim}
 use mathlib.Core.List.{List, [], _∷_, _++_, List·Memᴰ, List·Memᴰ·head, List·Memᴰ·tail, List·Memᴰ·cases-cons, List·Memᴰ·not-nil}
@@ -11,11 +11,21 @@ use lib.Ieee.Bits.{ofBits-fits}
 use Rattle.float.specs.Binary64.{bits}
 use Rattle.float.specs.Values.{finiteOf}
 use Rattle.protocol.specs.declared.Kind.{Kind}
-use Rattle.protocol.specs.Protocol.{fitted, ask, ended, refused, readOf}
-use Rattle.protocol.specs.Claim.{Exchange, F64s, run, ByPointAlone}
+use Rattle.protocol.specs.Protocol.{Answer, Result, fitted, ask, ended, refused, readOf, Fit, Engine}
+use Rattle.protocol.specs.Claim.{Exchange, F64s, run, ByPointAlone, OfOne, OfTwo, Claim}
 use Rattle.protocol.specs.Ask.{_>>=_}
 use Rattle.protocol.specs.Rounds.{engine}
 use Rattle.protocol.specs.Example.{example, Reaches, Pair, one, half, quarter, eighth, sample, questionFor, shortAnswers, shortResult, longAnswers, longResult, plainAnswers}
+use Rattle.protocol.proofs.ExampleLaws.{example-claim}
+
+-- ---- the hypotheses suffice
+
+of-one : {E : Engine} {f : Fit} {l : List Answer} {r : Result} → Claim E → Reaches E f l r → OfOne f (run E f l .exchanges) r
+of-one {f = f} {l = l} {r = r} c h = c .one f l r (h .started) (h .given) (h .brings)
+
+of-two : {E : Engine} {f g : Fit} {l m : List Answer} {r s : Result} → Claim E → Pair E f g l m r s → OfTwo (run E f l) r (run E g m) s
+of-two {f = f} {g = g} {l = l} {m = m} {r = r} {s = s} c h =
+    c .two f g l m r s (h .first .started) (h .second .started) (h .first .given) (h .second .given) (h .again) (h .by-point) (h .first .brings) (h .second .brings)
 
 -- ---- one objective: the words are a function of kind and point
 
@@ -101,7 +111,7 @@ unfolding ofBits mul lt finiteOf readOf _>>=_
 long-plain-own = (refl, (refl, (refl, (refl, (refl, (refl, (refl, (refl, tt))))))))
 
 -- the first stops for an allowance that is then raised
-pub raised : Pair (engine example) (sample (some 1)) (sample (some 5)) shortAnswers longAnswers shortResult longResult
+raised : Pair (engine example) (sample (some 1)) (sample (some 5)) shortAnswers longAnswers shortResult longResult
 raised =
     record {
       first = short-reaches;
@@ -111,7 +121,7 @@ raised =
     }
 
 -- the first stops for a reason of its own
-pub own-end : Pair (engine example) (sample (some 5)) (sample none) longAnswers plainAnswers longResult longResult
+own-end : Pair (engine example) (sample (some 5)) (sample none) longAnswers plainAnswers longResult longResult
 own-end =
     record {
       first = long-reaches;
@@ -119,3 +129,14 @@ own-end =
       again = record { job = refl; x0 = refl; iter = omega arith; fevals = le-refl 200 };
       by-point = one-objective own _ long-plain-own;
     }
+
+-- ---- the two parts hold of them
+
+pub short-one : OfOne (sample (some 1)) (run (engine example) (sample (some 1)) shortAnswers .exchanges) shortResult
+short-one = of-one example-claim short-reaches
+
+pub raised-two : OfTwo (run (engine example) (sample (some 1)) shortAnswers) shortResult (run (engine example) (sample (some 5)) longAnswers) longResult
+raised-two = of-two example-claim raised
+
+pub own-end-two : OfTwo (run (engine example) (sample (some 5)) longAnswers) longResult (run (engine example) (sample none) plainAnswers) longResult
+own-end-two = of-two example-claim own-end
