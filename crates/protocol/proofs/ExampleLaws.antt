@@ -1,4 +1,4 @@
--- The example fit satisfies the laws of rounds (`example-laws`), so its engine the claim (`example-claim`). Its value is told for its point, finite, and the least told, of every job. Assumes nothing.
+-- The example fit owes what `RoundsLaws` asks (`example-laws`), so its engine satisfies the claim (`example-claim`). Its f is the least told of every job. Assumes nothing.
 use mathlib.Core.Path.{_≡_, refl, sym, ap, _∙_, subst}
 use mathlib.Core.Logic.{⊎-elim}
 use mathlib.Core.List.{List, [], _∷_, _++_, List·Memᴰ·head, List·Memᴰ·not-nil, List·Memᴰ·eq-of-singleton, List·Memᴰ·append-cases, Memᴰ·append-right}
