@@ -14,3 +14,6 @@ pub mod FitsBounds
 pub mod Places
 pub mod FitsPlaces
 pub mod Counts
+pub mod ExampleLaws
+pub mod NotVacuous
+pub mod Wrong

@@ -10,3 +10,5 @@ pub mod Bounds
 pub mod Fits
 pub mod Places
 pub mod Counts
+pub mod Example
+pub mod Wrong
