@@ -2,3 +2,4 @@ pub mod Record
 pub mod Answer
 pub mod Start
 pub mod Replies
+pub mod Follows
