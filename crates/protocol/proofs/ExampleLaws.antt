@@ -7,7 +7,7 @@ use Prim.Native.Nat.{ℕ}
 use native.Mathlib.Omega.{arith}
 use lib.Dec.{T, leb}
 use lib.ListN.{length, getD}
-use lib.Ieee.{Float, nan, inf, fin, lt}
+use lib.Ieee.{Float, nan, lt}
 use Rattle.float.specs.Binary64.{Number, NotAbove}
 use Rattle.float.specs.Values.{Finite, finiteOf}
 use Rattle.float.proofs.Order.{lt→le, le→not-above, lt-number-r, not-above-trans}
@@ -20,33 +20,10 @@ use Rattle.protocol.specs.Ask.{Ask, _>>=_, heardAt, wp}
 use Rattle.protocol.specs.Rounds.{Ending, atHead, fails, Verdict, goOn, stop, restart, engine}
 use Rattle.protocol.specs.RoundsLaws.{Own, Begins, Ends, Opens, Opening, RoundsLaws}
 use Rattle.protocol.specs.Example.{Head, halved, opening, next, round, example}
+use Rattle.protocol.proofs.Readings.{only, read-own, read-below}
 use Rattle.protocol.proofs.Texts.{grow-one}
 use Rattle.protocol.proofs.Replies.{true-T, not-above-self}
 use Rattle.protocol.proofs.RoundsClaim.{claim-of-rounds}
-
--- ---- what is read of a word
-
-read-own : (v : Float) → Finite (readOf v) → readOf v ≡ v
-unfolding readOf finiteOf
-read-own nan h = absurd h
-read-own (inf s) h = absurd h
-read-own (fin s m e) h = refl
-
--- what is less than something is no infinity that was read
-read-below : (v b : Float) → T (lt (readOf v) b) → Finite (readOf v)
-unfolding readOf finiteOf lt
-read-below nan nan h = absurd h
-read-below nan (inf s) h = absurd h
-read-below nan (fin s m e) h = absurd h
-read-below (inf t) nan h = absurd h
-read-below (inf t) (inf s) h = absurd h
-read-below (inf t) (fin s m e) h = absurd h
-read-below (fin t n d) b h = tt
-
-only : (w : List Float) → length w ≡ 1 → w ≡ getD w 0 nan ∷ []
-only [] h = absurd (omega arith)
-only (v ∷ []) h = refl
-only (v ∷ u ∷ w) h = absurd (omega arith)
 
 -- ---- one exchange more: a value told for y by the words w
 

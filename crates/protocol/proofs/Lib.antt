@@ -1,3 +1,4 @@
+pub mod Readings
 pub mod Texts
 pub mod Replies
 pub mod EngineOne
