@@ -1,0 +1,2 @@
+pub mod Precedes
+pub mod Order
