@@ -1,11 +1,13 @@
--- The engine that runs simplex fits alone satisfies the mission's 3 (`claim`). Assumes nothing.
+-- The engine that runs simplex fits alone satisfies the mission's 3 (`claim`), and puts no more questions than 01 allows (`at-most`). Assumes nothing.
 use Rattle.protocol.specs.RoundsLaws.{RoundsLaws}
 use Rattle.protocol.specs.Fits.{fits}
 use Rattle.protocol.proofs.FitsLaws.{fits-laws}
 use Rattle.protocol.proofs.RoundsClaim.{claim-of-rounds}
 use Rattle.neldermead.specs.Algorithm.{nelderMead}
 use Rattle.neldermead.specs.Laws.{gradientless, SimplexClaim}
+use Rattle.neldermead.specs.Counts.{SimplexCounts}
 use Rattle.neldermead.proofs.Laws.{laws}
+use Rattle.neldermead.proofs.Counts.{counts}
 
 -- a fit without a position owes nothing
 gradientless-laws : RoundsLaws gradientless (λ s. ⊥)
@@ -21,3 +23,6 @@ gradientless-laws =
 
 pub claim : SimplexClaim
 claim = claim-of-rounds (fits nelderMead gradientless) (fits-laws nelderMead gradientless laws gradientless-laws)
+
+pub at-most : SimplexCounts gradientless
+at-most = counts gradientless

@@ -1,4 +1,4 @@
--- What holds at the head of every round of a simplex fit, and what it gives: the laws of rounds, and the claim. Statements only.
+-- What holds at the head of every round of a simplex fit, and what it gives: the laws of rounds, and the claim. Definitions and statements only.
 use mathlib.Core.Path.{_≡_}
 use mathlib.Core.Bool.{Bool}
 use mathlib.Core.Logic.{_⊎_}
