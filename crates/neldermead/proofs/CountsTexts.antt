@@ -44,7 +44,8 @@ module _ (κ : Kind) (n R : ℕ) where
   unfolding askVertices
   vertices-cost [] h = (all-nil (Long n), refl)
   vertices-cost (x ∷ xs) h =
-      costs-more κ (u + (length xs * u + 0)) (suc (length xs) * u) (askVertex x >>= λ w. askVertices xs >>= λ us. finish (w ∷ us)) (Made (suc (length xs))) (omega (arith, suc-mul (length xs) u))
+      costs-more κ (u + (length xs * u + 0)) (suc (length xs) * u) (askVertex x >>= λ w. askVertices xs >>= λ us. finish (w ∷ us)) (Made (suc (length xs)))
+      (omega (arith, suc-mul (length xs) u))
       (costs-bind κ u (length xs * u + 0) (askVertex x) (λ w. askVertices xs >>= λ us. finish (w ∷ us)) (Long n) (Made (suc (length xs))) (vertex-costs x (h x (List·Memᴰ·head refl)))
       (λ w l. costs-bind κ (length xs * u) 0 (askVertices xs) (λ us. finish (w ∷ us)) (Made (length xs)) (Made (suc (length xs))) (vertices-cost xs (λ y m. h y (List·Memᴰ·tail m)))
       (λ us k. (all-cons (Long n) w us l (k .0), ap suc (k .1)))))

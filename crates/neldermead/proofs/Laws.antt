@@ -58,7 +58,8 @@ asked-cons es fs gs u us h k =
       told = all-cons (VertexTold gs) u us (told-grows fs gs (k .grows) u (h .told u (List·Memᴰ·head refl))) (k .told);
       grows = λ x v t. k .grows x v (h .grows x v t);
       covers = λ b ws c. cover-by gs b (us ++ (u ∷ ws)) (u ∷ us ++ ws) (k .covers b (u ∷ ws) (h .covers b ws c))
-          (λ x m. ⊎-elim (λ i. List·Memᴰ·tail (Memᴰ·append-left ws i)) (λ i. ⊎-elim (λ e. List·Memᴰ·head e) (λ j. List·Memᴰ·tail (Memᴰ·append-right us j)) (List·Memᴰ·cases-cons i)) (List·Memᴰ·append-cases us m));
+          (λ x m. ⊎-elim (λ i. List·Memᴰ·tail (Memᴰ·append-left ws i))
+          (λ i. ⊎-elim (λ e. List·Memᴰ·head e) (λ j. List·Memᴰ·tail (Memᴰ·append-right us j)) (List·Memᴰ·cases-cons i)) (List·Memᴰ·append-cases us m));
     }
 
 vertices-ok : (xs : List (List Float)) (es : List Exchange) → wp es (askVertices xs) (λ fs us. Asked es fs us)
@@ -207,7 +208,8 @@ round-law s es p a = (
 
 -- ---- a new simplex: about the best, or the first
 
-rebuilt : (s : SimplexOptions) (es : List Exchange) (p : Position) (x : List Float) → BestTold es (p .best) → Cover es (p .best) [] → wp es (build p x) (Ends nelderMead Least At s (p .best .f))
+rebuilt : (s : SimplexOptions) (es : List Exchange) (p : Position) (x : List Float) → BestTold es (p .best) → Cover es (p .best) []
+    → wp es (build p x) (Ends nelderMead Least At s (p .best .f))
 rebuilt s es p x t k =
     lower s es (p .best .f) (build p x)
     (then-vertices es (x ∷ corners (p .options .step) [] x) (built p) (End (p .best .f)) (λ fs us a. go fs us a (anyFinite us)))
@@ -267,7 +269,8 @@ own-reason p = own (lt (p .options .ftol) _)
 stop-law : (p : Position) (y : Termination) → tests p ≡ stop y → Own y
 stop-law p y = tests-case (λ v. v ≡ stop y → Own y) p (λ e. subst Own (stop-inj e) (own-reason p)) (λ i e. absurd (stop≢restart (sym e))) (λ e. absurd (go-on≢stop e))
 
-restart-law : (s : SimplexOptions) (es : List Exchange) (p : Position) (m : Ask (Ending Position)) → AtHead es p → tests p ≡ restart m → Begins m × wp es m (Ends nelderMead Least At s (p .best .f))
+restart-law : (s : SimplexOptions) (es : List Exchange) (p : Position) (m : Ask (Ending Position)) → AtHead es p → tests p ≡ restart m
+    → Begins m × wp es m (Ends nelderMead Least At s (p .best .f))
 restart-law s es p m a =
     tests-case (λ v. v ≡ restart m → Begins m × wp es m (Ends nelderMead Least At s (p .best .f))) p
     (λ e. absurd (stop≢restart e))

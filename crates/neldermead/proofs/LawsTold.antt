@@ -66,14 +66,16 @@ cover-by es b us ws h k x v t = ⊎-elim (λ n. inl n) (λ p. inr (p .0, k (p .0
 pub cover-swap : (es : List Exchange) (b r : Vertex) (ws : List Vertex) → Cover es b (r ∷ ws) → Number (r .f) → (u : Vertex) → List·Memᴰ u ws → NotAbove (u .f) (r .f) → Cover es b ws
 cover-swap es b r ws h n u m k x v t =
     ⊎-elim (λ a. inl a)
-    (λ p. ⊎-elim (λ e. inr (u, m, not-above-trans (u .f) (r .f) (readOf v) n k (subst (λ (z : Vertex). NotAbove (z .f) (readOf v)) e (p .2)))) (λ i. inr (p .0, i, p .2)) (List·Memᴰ·cases-cons (p .1)))
+    (λ p. ⊎-elim (λ e. inr (u, m, not-above-trans (u .f) (r .f) (readOf v) n k (subst (λ (z : Vertex). NotAbove (z .f) (readOf v)) e (p .2))))
+    (λ i. inr (p .0, i, p .2)) (List·Memᴰ·cases-cons (p .1)))
     (h x v t)
 
 -- so does the best
 pub cover-best : (es : List Exchange) (b r : Vertex) (ws : List Vertex) → Cover es b (r ∷ ws) → Number (r .f) → NotAbove (b .f) (r .f) → Cover es b ws
 cover-best es b r ws h n k x v t =
     ⊎-elim (λ a. inl a)
-    (λ p. ⊎-elim (λ e. inl (not-above-trans (b .f) (r .f) (readOf v) n k (subst (λ (z : Vertex). NotAbove (z .f) (readOf v)) e (p .2)))) (λ i. inr (p .0, i, p .2)) (List·Memᴰ·cases-cons (p .1)))
+    (λ p. ⊎-elim (λ e. inl (not-above-trans (b .f) (r .f) (readOf v) n k (subst (λ (z : Vertex). NotAbove (z .f) (readOf v)) e (p .2))))
+    (λ i. inr (p .0, i, p .2)) (List·Memᴰ·cases-cons (p .1)))
     (h x v t)
 
 -- what is told is not below the best where nothing else covers
@@ -165,7 +167,9 @@ module _ (es : List Exchange) (p : Position) (us : List Vertex) (told : All (Ver
   old-cover : NotAbove (p .best .f) (first .f) → Cover es (p .best) []
   old-cover k x v t =
       inl (⊎-elim (λ a. a)
-      (λ q. not-above-trans (p .best .f) (q .0 .f) (readOf v) (told-number es (q .0) (told (q .0) (q .1))) (not-above-trans (p .best .f) (first .f) (q .0 .f) first-number k (least (q .0) (q .1))) (q .2)) (cover x v t))
+      (λ q.
+      let below : NotAbove (p .best .f) (q .0 .f) = not-above-trans (p .best .f) (first .f) (q .0 .f) first-number k (least (q .0) (q .1)) in
+      not-above-trans (p .best .f) (q .0 .f) (readOf v) (told-number es (q .0) (told (q .0) (q .1))) below (q .2)) (cover x v t))
 
   pub arrives : AtHead es (arrive p us)
   unfolding arrive better
