@@ -1,0 +1,4 @@
+pub mod Order
+pub mod Algorithm
+pub mod Laws
+pub mod Counts
