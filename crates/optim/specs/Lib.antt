@@ -1,3 +1,5 @@
 pub mod Record
 pub mod Answer
 pub mod Start
+pub mod Replies
+pub mod Follows

@@ -1,4 +1,4 @@
--- Every list of answers comes to the same in an engine that follows another, and the claim carries over: `claim-follows`. Assumes nothing.
+-- Every list of answers comes to the same in an engine that follows another, and the claim carries over: `alike`, `claim-follows`. Assumes nothing.
 use mathlib.Core.Path.{_≡_, refl, sym, _∙_, ap, subst, subst₂}
 use mathlib.Core.List.{List, [], _∷_, _++_, List·Memᴰ}
 use mathlib.Core.Bool.{Bool, true, false}
@@ -6,7 +6,7 @@ use Prim.Native.Nat.{suc}
 use lib.ListN.{length}
 use Rattle.protocol.specs.Protocol.{Question, Answer, Result, fitted, Reply, ended, Fit, Engine}
 use Rattle.protocol.specs.Claim.{F64s, GivenF64s, accepted, Exchange, exchange, questionIn, Dialogue, given, give, giveAll, begin, run, NotRefused, Started, Brings, Taken, Numbered, otherwise, ByPointAlone, OpensWith, OfOne, OfCall, Claim}
-use Rattle.protocol.specs.Follow.{one, other, Follows}
+use Rattle.protocol.specs.Follow.{one, other, Follows, Alike}
 
 module _ (R S : Type 0) (start : Fit → Reply × R) (answer : R → Answer → Reply × R) (start' : Fit → Reply × S) (answer' : S → Answer → Reply × S)
     (F : Follows R S start answer start' answer') where
@@ -49,6 +49,9 @@ module _ (R S : Type 0) (start : Fit → Reply × R) (answer : R → Answer → 
   same-run f l n w =
       let s = F .starts f in
       same-all (begin E f) (begin E' f) l w (record { standing = s .0; questions = ap questionIn (s .0); exchanges = refl; replies = λ i. s .0 i ∷ []; related = s .1 n })
+
+  pub alike : (f : Fit) (l : List Answer) → Started E f → GivenF64s l → Alike R S start answer start' answer' f l
+  alike f l n w = let s = same-run f l n w in record { questions = s .questions; exchanges = s .exchanges; replies = s .replies }
 
   other-started : (f : Fit) → Started E f → Started E' f
   other-started f n = subst NotRefused (F .starts f .0) n

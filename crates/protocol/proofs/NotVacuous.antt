@@ -111,7 +111,7 @@ unfolding ofBits mul lt finiteOf readOf _>>=_
 long-plain-own = (refl, (refl, (refl, (refl, (refl, (refl, (refl, (refl, tt))))))))
 
 -- the first stops for an allowance that is then raised
-raised : Pair (engine example) (sample (some 1)) (sample (some 5)) shortAnswers longAnswers shortResult longResult
+pub raised : Pair (engine example) (sample (some 1)) (sample (some 5)) shortAnswers longAnswers shortResult longResult
 raised =
     record {
       first = short-reaches;
@@ -121,7 +121,7 @@ raised =
     }
 
 -- the first stops for a reason of its own
-own-end : Pair (engine example) (sample (some 5)) (sample none) longAnswers plainAnswers longResult longResult
+pub own-end : Pair (engine example) (sample (some 5)) (sample none) longAnswers plainAnswers longResult longResult
 own-end =
     record {
       first = long-reaches;

@@ -1,9 +1,16 @@
--- The claim holds from any dialogue that was reached: `claim-from`. Assumes nothing.
+-- The claim, the counts and the bounds hold from any dialogue that was reached: `claim-from`, `counted-from`, `questions-from`. Assumes nothing.
 use mathlib.Core.Path.{_≡_, refl, _∙_, ap, subst, subst₂}
 use mathlib.Core.List.{List, [], _∷_, _++_}
-use Rattle.protocol.specs.Protocol.{Answer, Engine}
-use Rattle.protocol.specs.Claim.{GivenF64s, Dialogue, give, giveAll, run, Brings, ByPointAlone, OfOne, OfTwo, OfCall, Claim}
-use Rattle.protocol.specs.Resume.{ClaimFrom}
+use Prim.Native.Nat.{ℕ, _≤_}
+use lib.ListN.{length}
+use Rattle.protocol.specs.declared.Kind.{Kind}
+use Rattle.protocol.specs.declared.Kind.the-variants.{Value, Gradient}
+use Rattle.protocol.specs.Protocol.{Answer, Job, Fit, Engine}
+use Rattle.protocol.specs.Claim.{GivenF64s, Dialogue, give, giveAll, run, Brings, ByPointAlone, OfOne, OfTwo, OfCall, Claim, answersOf}
+use Rattle.protocol.specs.Rounds.{Rounds, Kept}
+use Rattle.protocol.specs.Counts.{Counted}
+use Rattle.protocol.specs.Bounds.{questionsOf, QuestionsAtMost}
+use Rattle.protocol.specs.Resume.{ClaimFrom, CountedFrom, QuestionsFrom}
 
 append-given : (l m : List Answer) → GivenF64s l → GivenF64s m → GivenF64s (l ++ m)
 append-given [] m w v = v
@@ -28,3 +35,16 @@ module _ (E : Engine) where
         subst₂ (λ (y z : Dialogue (E .Record)). ByPointAlone (y .exchanges ++ z .exchanges) → Brings y r → Brings z s → OfTwo y r z s) (h .comes-to) (k .comes-to)
         (C .two f g (h .answers) (k .answers) r s (h .started) (k .started) (h .given) (k .given) again);
   }
+
+module _ (R : Rounds Job) where
+  pub counted-from : Counted R → CountedFrom R
+  counted-from C = record {
+    last = λ f d h. subst (λ (z : Dialogue (Kept (R .Position))). z .recordNow .last ≡ length (z .exchanges)) (h .comes-to) (C .last f (h .answers));
+    values = λ f d h. subst (λ (z : Dialogue (Kept (R .Position))). z .recordNow .values ≡ answersOf Value (z .exchanges)) (h .comes-to) (C .values f (h .answers));
+    gradients = λ f d h. subst (λ (z : Dialogue (Kept (R .Position))). z .recordNow .gradients ≡ answersOf Gradient (z .exchanges)) (h .comes-to) (C .gradients f (h .answers));
+    fevals = λ f d r h. subst (λ (z : Dialogue (Kept (R .Position))). Brings z r → r .fevals ≡ answersOf Value (z .exchanges)) (h .comes-to) (C .fevals f (h .answers) r);
+    gevals = λ f d r h. subst (λ (z : Dialogue (Kept (R .Position))). Brings z r → r .gevals ≡ answersOf Gradient (z .exchanges)) (h .comes-to) (C .gevals f (h .answers) r);
+  }
+
+  pub questions-from : (κ : Kind) (bound : ℕ) (f : Fit) → QuestionsAtMost R κ bound f → QuestionsFrom R κ bound f
+  questions-from κ bound f Q d h = subst (λ (z : Dialogue (Kept (R .Position))). questionsOf κ (z .questions) ≤ bound) (h .comes-to) (Q (h .answers))

@@ -1,4 +1,4 @@
--- What a store into one coordinate does to the list that `first` reads. Only a store wants a length: that of the array stored into. Assumes nothing.
+-- What a store into one coordinate does to the list that `first` reads, and what reading a whole list gives. Only a store wants a length: that of the array stored into. Assumes nothing.
 use mathlib.Core.Path.{_≡_, refl, sym, ap, ap₂, _∙_}
 use Prim.Native.Nat.{ℕ, suc, _<_}
 use mathlib.Core.Bool.{Bool, true, false}
@@ -32,3 +32,8 @@ first-set n x i v h l =
 pub first-more : (g : List Float) (i : ℕ) (v : Float) → i < length g → first (suc i) (set g i v) ≡ first i g ++ (v ∷ [])
 unfolding first
 first-more g i v l = ap₂ (λ a b. a ++ (b ∷ [])) (upto-same (at (set g i v)) (at g) i (λ k h. getD-set-other g i k v nan (λ e. omega arith))) (getD-set-same g i v nan l)
+
+-- all coordinates of a list are the list
+pub first-whole : (x : List Float) → first (length x) x ≡ x
+first-whole x =
+    ext-getD nan (first (length x) x) x (point-laws .listed (length x) x) (λ k j. point-laws .read (length x) x k (rw (point-laws .listed (length x) x) at j))
