@@ -1,2 +1,3 @@
 pub mod Precedes
 pub mod Order
+pub mod Phases
