@@ -1,3 +1,5 @@
 pub mod Order
 pub mod Algorithm
 pub mod Phases
+pub mod Laws
+pub mod Counts

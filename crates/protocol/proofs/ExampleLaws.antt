@@ -26,14 +26,14 @@ use Rattle.protocol.proofs.RoundsClaim.{claim-of-rounds}
 
 -- ---- what is read of a word
 
-read-own : (v : Float) → Finite (readOf v) → readOf v ≡ v
+pub read-own : (v : Float) → Finite (readOf v) → readOf v ≡ v
 unfolding readOf finiteOf
 read-own nan h = absurd h
 read-own (inf s) h = absurd h
 read-own (fin s m e) h = refl
 
 -- what is less than something is no infinity that was read
-read-below : (v b : Float) → T (lt (readOf v) b) → Finite (readOf v)
+pub read-below : (v b : Float) → T (lt (readOf v) b) → Finite (readOf v)
 unfolding readOf finiteOf lt
 read-below nan nan h = absurd h
 read-below nan (inf s) h = absurd h
@@ -43,7 +43,7 @@ read-below (inf t) (inf s) h = absurd h
 read-below (inf t) (fin s m e) h = absurd h
 read-below (fin t n d) b h = tt
 
-only : (w : List Float) → length w ≡ 1 → w ≡ getD w 0 nan ∷ []
+pub only : (w : List Float) → length w ≡ 1 → w ≡ getD w 0 nan ∷ []
 only [] h = absurd (omega arith)
 only (v ∷ []) h = refl
 only (v ∷ u ∷ w) h = absurd (omega arith)
