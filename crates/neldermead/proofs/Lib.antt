@@ -7,3 +7,4 @@ pub mod CountsLengths
 pub mod CountsTexts
 pub mod Counts
 pub mod Claim
+pub mod Insertion

@@ -3,3 +3,4 @@ pub mod Algorithm
 pub mod Phases
 pub mod Laws
 pub mod Counts
+pub mod Vertices
