@@ -1,8 +1,10 @@
 pub mod Precedes
 pub mod Order
+pub mod Phases
 pub mod LawsTold
 pub mod Laws
 pub mod CountsLengths
 pub mod CountsTexts
 pub mod Counts
 pub mod Claim
+pub mod Insertion

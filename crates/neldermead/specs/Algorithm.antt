@@ -1,7 +1,7 @@
 -- Nelder and Mead's simplex with the coefficients of Gao and Han (2012), in direct style: `nelder_mead` of neldermead.rs over lists of n coordinates. The Rust's lines stand as
 -- comments where they are not plain. Definitions only.
 use Prim.Native.Nat.{ℕ, suc, _-_}
-use mathlib.Core.Bool.{Bool, true, false, not, _&&_, _||_, cond}
+use mathlib.Core.Bool.{Bool, false, not, _&&_, _||_, cond}
 use mathlib.Core.List.{List, [], _∷_, _++_, map, foldl}
 use lib.IntN.{pos}
 use lib.Dec.{ltb, leb, eqb}

@@ -1,4 +1,6 @@
 pub mod Order
 pub mod Algorithm
+pub mod Phases
 pub mod Laws
 pub mod Counts
+pub mod Vertices

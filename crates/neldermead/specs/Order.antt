@@ -1,7 +1,7 @@
 -- Vertices in order. 01: "Vertices are put in order by value, equal ones as they stood, and -0.0 before +0.0." Definitions and statements only.
 use Prim.Native.Nat.{ℕ, suc, _<_}
 use mathlib.Core.Path.{_≡_}
-use mathlib.Core.Bool.{Bool, true, false, not, cond}
+use mathlib.Core.Bool.{not, cond}
 use mathlib.Core.List.{List, [], _∷_}
 use lib.Dec.{T}
 use lib.ListN.{length, getD}
