@@ -1,3 +1,4 @@
 pub mod Order
 pub mod Algorithm
 pub mod Vertices
+pub mod Step
