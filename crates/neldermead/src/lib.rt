@@ -1,18 +1,37 @@
-// Nelder and Mead's simplex, one answer at a time.
+// Nelder and Mead's simplex, one answer at a time. Each move takes the value told for the open
+// question, and gives the record with the next question or the end in it.
+mod vertices;
+
 use protocol::SimplexOptions;
 ghost use mathlib.Core.Path.{_≡_};
-ghost use Prim.Native.Nat.{suc, _≤_, _<_};
-ghost use Rattle.neldermead.specs.Algorithm.{adapts, beta, gamma, delta, displaced, resolution, better};
-ghost use Rattle.neldermead.specs.Vertices.{insertedOf, sortedOf, summedOf, centroidOf, cornerOf, sizeOf, anyFiniteOf, flatOf, convergedOf};
+ghost use Prim.Native.Nat.{_≤_, _<_};
+ghost use Rattle.neldermead.specs.Step.{orderedOf, trialOf, reflectOf, reasonOf, doneOf, testedOf, headedOf, replacedOf, buildOf, settledOf, builtOf, reflectedOf, expandedOf, shrinkOf, outsideOf, insideOf, shrinkingOf, toldOf, startOf};
 
 // The reflection's coefficient.
 const ALPHA: f64 = 1.0;
-// The least edge of a new simplex.
-const ZERO_STEP: f64 = 0.00025;
-// Both floors are this many units in the last place.
-const RESOLUTION_ULPS: f64 = 4.0;
 
-const EPSILON: f64 = 2.220446049250313e-16;
+// What the open question is for: a vertex of a new simplex, a trial point, or a vertex drawn to the best.
+const BUILDING: u64 = 1;
+
+const REFLECTED: u64 = 2;
+
+const EXPANDED: u64 = 3;
+
+const OUTSIDE: u64 = 4;
+
+const INSIDE: u64 = 5;
+
+const SHRINKING: u64 = 6;
+// The fit has ended: SimplexTolerance, ObjectiveResolution, MaxIterations, MaxFevals, or refusal 20.
+const TOLERANCE: u64 = 7;
+
+const RESOLUTION: u64 = 8;
+
+const ITERATIONS: u64 = 9;
+
+const FEVALS: u64 = 10;
+
+const NOT_FINITE: u64 = 11;
 
 // A point with its value.
 pub struct Vertex {
@@ -20,206 +39,347 @@ pub struct Vertex {
     pub f: f64,
 }
 
-// Vertex i put among those after it up to n, which are in order: behind those that precede it, so that
-// equal ones stay as they stood.
-fn inserted(v: [Vertex; 17], i: usize, n: usize) -> [Vertex; 17]
-    requires { ⌜ i ≤ n ⌝ }
+// What the start fixes. The allowances are numbers: an absent one is its default. Coefficients are not
+// kept: they are made anew from n and the options, so that no record can hold others.
+pub struct Fixed {
+    pub n: usize,
+    pub options: SimplexOptions,
+    pub iter: u64,
+    pub fevals: u64,
+}
+
+// The simplex fit as far as it has come: what the open question is for and its point; of a simplex that
+// is built or shrunk the vertex that is asked for; rounds and runs done; the best vertex of all runs;
+// the centroid, the reflected point with its value, and the vertices.
+pub struct Simplex {
+    pub phase: u64,
+    pub at: usize,
+    pub rounds: u64,
+    pub runs: u64,
+    pub x: [f64; 16],
+    pub best: Vertex,
+    pub cen: [f64; 16],
+    pub refl: Vertex,
+    pub v: [Vertex; 17],
+}
+
+// The vertices in order, and the best of all runs.
+fn ordered(n: usize, s: Simplex) -> Simplex
     requires { ⌜ n ≤ 16 ⌝ }
-    ensures { λ r. ⌜ r ≡ insertedOf v i n ⌝ }
+    ensures { λ r. ⌜ r ≡ orderedOf n s ⌝ }
 {
-    let u = v[i];
-    let mut w = v;
-    let mut j = i;
-    while j < n {
-        let p = w[j + 1];
-        if !float::precedes(p.f, u.f) {
-            w[j] = u;
-            return w;
-        }
-        w[j] = p;
-        j += 1;
-    }
-    w[j] = u;
-    w
+    let v = s.v;
+    let w = vertices::sorted(v, n);
+    let first = w[0];
+    let old = s.best;
+    let best = vertices::better_of(first, old);
+    let mut q = s;
+    q.v = w;
+    q.best = best;
+    q
 }
 
-// The first n + 1 vertices in order, from the last on: each is put among those after it.
-fn sorted(v: [Vertex; 17], n: usize) -> [Vertex; 17]
+// A trial point on the line through the worst vertex and the centroid.
+fn trial(n: usize, s: Simplex, phase: u64, coef: f64) -> Simplex
     requires { ⌜ n ≤ 16 ⌝ }
-    ensures { λ r. ⌜ r ≡ sortedOf v n ⌝ }
+    ensures { λ r. ⌜ r ≡ trialOf n s phase coef ⌝ }
 {
-    let mut w = v;
-    let mut i = n;
-    while 0 < i {
-        let k = i - 1;
-        let next = inserted(w, k, n);
-        w = next;
-        i = k;
-    }
-    w
+    let worst = s.v[n];
+    let w = worst.x;
+    let c = s.cen;
+    let x = vector::towards(c, w, coef, n);
+    let mut q = s;
+    q.phase = phase;
+    q.x = x;
+    q
 }
 
-// The points of the first n vertices summed.
-fn summed(v: [Vertex; 17], n: usize) -> [f64; 16]
+// A round begins: the reflected point is asked for.
+fn reflect(n: usize, s: Simplex) -> Simplex
     requires { ⌜ n ≤ 16 ⌝ }
-    ensures { λ r. ⌜ r ≡ summedOf v n n ⌝ }
+    requires { ⌜ s .rounds < 18446744073709551615 ⌝ }
+    ensures { λ r. ⌜ r ≡ reflectOf n s ⌝ }
 {
-    let mut sum = [0.0; 16];
-    let mut i: usize = 0;
-    while i < n {
-        let p = v[i];
-        let x = p.x;
-        let next = vector::addition(sum, x, n);
-        sum = next;
-        i += 1;
+    let v = s.v;
+    let c = vertices::centroid(v, n);
+    let mut q = s;
+    q.rounds = s.rounds + 1;
+    q.cen = c;
+    trial(n, q, REFLECTED, ALPHA)
+}
+
+// Why a run stops whose least value is f.
+fn reason(ftol: f64, f: f64) -> u64
+    ensures { λ r. ⌜ r ≡ reasonOf ftol f ⌝ }
+{
+    if ftol < vertices::floor(float::abs(f)) {
+        return RESOLUTION;
     }
-    sum
+    TOLERANCE
 }
 
-// The mean of the first n vertices.
-fn centroid(v: [Vertex; 17], n: usize) -> [f64; 16]
-    requires { ⌜ n ≤ 16 ⌝ }
-    ensures { λ r. ⌜ r ≡ centroidOf v n ⌝ }
+// A run is done: the end, or with restarts left a new simplex about the best point.
+fn done(o: SimplexOptions, s: Simplex) -> Simplex
+    ensures { λ r. ⌜ r ≡ doneOf o s ⌝ }
 {
-    let sum = summed(v, n);
-    vector::quotient(sum, (n as u16) as f64, n)
-}
-
-// A coordinate displaced away from zero.
-fn edge(initial: f64, v: f64) -> f64
-    ensures { λ r. ⌜ r ≡ displaced initial v ⌝ }
-{
-    let step = float::max(initial * float::abs(v), ZERO_STEP);
-    if v < 0.0 {
-        return v + -step;
+    let first = s.v[0];
+    let best = s.best;
+    let x = best.x;
+    let why = reason(o.ftol, first.f);
+    let mut q = s;
+    if o.restarts <= s.runs {
+        q.phase = why;
+        return q;
     }
-    v + step
+    q.phase = BUILDING;
+    q.at = 0;
+    q.runs = s.runs + 1;
+    q.x = x;
+    q
 }
 
-// The seed with coordinate i displaced.
-fn corner(initial: f64, seed: [f64; 16], i: usize) -> [f64; 16]
+// The tests at the head of a round: size and spread, then max_iter, then max_fevals.
+fn tested(fit: Fixed, s: Simplex, fevals: u64) -> Simplex
+    requires { ⌜ fit .n ≤ 16 ⌝ }
+    ensures { λ r. ⌜ r ≡ testedOf fit s fevals ⌝ }
+{
+    let n = fit.n;
+    let o = fit.options;
+    let v = s.v;
+    let mut q = s;
+    if vertices::converged(o, v, n) {
+        return done(o, s);
+    }
+    if fit.iter <= s.rounds {
+        q.phase = ITERATIONS;
+        return q;
+    }
+    if fit.fevals <= fevals {
+        q.phase = FEVALS;
+        return q;
+    }
+    reflect(n, s)
+}
+
+// The head of a round, after `fevals` accepted values.
+fn headed(fit: Fixed, s: Simplex, fevals: u64) -> Simplex
+    requires { ⌜ fit .n ≤ 16 ⌝ }
+    ensures { λ r. ⌜ r ≡ headedOf fit s fevals ⌝ }
+{
+    let q = ordered(fit.n, s);
+    tested(fit, q, fevals)
+}
+
+// The worst vertex gives way to u, and the round is over.
+fn replaced(fit: Fixed, s: Simplex, u: Vertex, fevals: u64) -> Simplex
+    requires { ⌜ fit .n ≤ 16 ⌝ }
+    ensures { λ r. ⌜ r ≡ replacedOf fit s u fevals ⌝ }
+{
+    let n = fit.n;
+    let mut q = s;
+    q.v[n] = u;
+    headed(fit, q, fevals)
+}
+
+// The vertex of a new simplex in which coordinate i of the seed, the first vertex, is displaced.
+fn build(initial: f64, s: Simplex, i: usize) -> Simplex
     requires { ⌜ i < 16 ⌝ }
-    ensures { λ r. ⌜ r ≡ cornerOf initial seed i ⌝ }
+    ensures { λ r. ⌜ r ≡ buildOf initial s i ⌝ }
 {
-    let mut x = seed;
-    x[i] = edge(initial, seed[i]);
-    x
+    let first = s.v[0];
+    let seed = first.x;
+    let x = vertices::corner(initial, seed, i);
+    let mut q = s;
+    q.at = i + 1;
+    q.x = x;
+    q
 }
 
-// The largest distance of the others of the first n + 1 vertices from the first.
-fn size(v: [Vertex; 17], n: usize) -> f64
-    requires { ⌜ n ≤ 16 ⌝ }
-    ensures { λ r. ⌜ r ≡ sizeOf v n n ⌝ }
+// A simplex is built: refusal 20 where all its values are non-finite, in whichever run.
+fn settled(fit: Fixed, s: Simplex, fevals: u64) -> Simplex
+    requires { ⌜ fit .n ≤ 16 ⌝ }
+    ensures { λ r. ⌜ r ≡ settledOf fit s fevals ⌝ }
 {
-    let b = v[0];
-    let y = b.x;
-    let mut m = 0.0;
-    let mut i: usize = 0;
-    while i < n {
-        let p = v[i + 1];
-        let x = p.x;
-        let d = vector::difference(x, y, n);
-        m = float::max(m, vector::inf_norm(d, n));
-        i += 1;
+    let n = fit.n;
+    let v = s.v;
+    if vertices::any_finite(v, n + 1) {
+        return headed(fit, s, fevals);
     }
-    m
+    let mut q = s;
+    q.phase = NOT_FINITE;
+    q
 }
 
-// Whether one of the first k values is finite.
-fn any_finite(v: [Vertex; 17], k: usize) -> bool
-    requires { ⌜ k ≤ 17 ⌝ }
-    ensures { λ r. ⌜ r ≡ anyFiniteOf v k ⌝ }
+// The answer to a vertex of a new simplex.
+fn built(fit: Fixed, s: Simplex, f: f64, fevals: u64) -> Simplex
+    requires { ⌜ fit .n ≤ 16 ⌝ }
+    requires { ⌜ s .at ≤ fit .n ⌝ }
+    ensures { λ r. ⌜ r ≡ builtOf fit s f fevals ⌝ }
 {
-    let mut i: usize = 0;
-    while i < k {
-        let p = v[i];
-        if float::is_finite(p.f) {
-            return true;
-        }
-        i += 1;
+    let n = fit.n;
+    let o = fit.options;
+    let i = s.at;
+    let x = s.x;
+    let mut q = s;
+    q.v[i] = Vertex { x, f };
+    if i < n {
+        return build(o.step, q, i);
     }
-    false
+    settled(fit, q, fevals)
 }
 
-// The resolution of a quantity of this scale: the floor under its tolerance.
-fn floor(scale: f64) -> f64
-    ensures { λ r. ⌜ r ≡ resolution scale ⌝ }
+// The answer to the reflected point.
+fn reflected(fit: Fixed, s: Simplex, f: f64, fevals: u64) -> Simplex
+    requires { ⌜ 0 < fit .n ⌝ }
+    requires { ⌜ fit .n ≤ 16 ⌝ }
+    ensures { λ r. ⌜ r ≡ reflectedOf fit s f fevals ⌝ }
 {
-    RESOLUTION_ULPS * EPSILON * scale
-}
-
-// Whether the spread of values is within the tolerance or its floor.
-fn flat(tol: f64, least: f64, most: f64) -> bool
-    ensures { λ r. ⌜ r ≡ flatOf tol least most ⌝ }
-{
-    float::abs(most - least) <= float::max(tol, floor(float::abs(least)))
-}
-
-// Whether size and spread of the first n + 1 vertices, in order, are within tolerances or floors.
-fn converged(o: SimplexOptions, v: [Vertex; 17], n: usize) -> bool
-    requires { ⌜ n ≤ 16 ⌝ }
-    ensures { λ r. ⌜ r ≡ convergedOf o v n ⌝ }
-{
-    let b = v[0];
-    let w = v[n];
-    let x = b.x;
-    let far = size(v, n);
-    let stop = float::max(o.xtol, floor(vector::inf_norm(x, n)));
-    if far <= stop {
-        return flat(o.ftol, b.f, w.f);
+    let n = fit.n;
+    let m = n - 1;
+    let o = fit.options;
+    let best = s.v[0];
+    let second = s.v[m];
+    let worst = s.v[n];
+    let x = s.x;
+    let refl = Vertex { x, f };
+    let mut q = s;
+    q.refl = refl;
+    if f < best.f {
+        return trial(n, q, EXPANDED, ALPHA * vertices::expansion(o, n));
     }
-    false
+    if f < second.f {
+        return replaced(fit, q, refl, fevals);
+    }
+    if f < worst.f {
+        return trial(n, q, OUTSIDE, ALPHA * vertices::contraction(o, n));
+    }
+    trial(n, q, INSIDE, -vertices::contraction(o, n))
 }
 
-// Only a smaller value takes the best's place.
-fn better_of(u: Vertex, b: Vertex) -> Vertex
-    ensures { λ r. ⌜ r ≡ better u b ⌝ }
+// The answer to the expanded point.
+fn expanded(fit: Fixed, s: Simplex, f: f64, fevals: u64) -> Simplex
+    requires { ⌜ fit .n ≤ 16 ⌝ }
+    ensures { λ r. ⌜ r ≡ expandedOf fit s f fevals ⌝ }
 {
-    if u.f < b.f {
-        return u;
+    let x = s.x;
+    let refl = s.refl;
+    if f < refl.f {
+        return replaced(fit, s, Vertex { x, f }, fevals);
     }
-    b
+    replaced(fit, s, refl, fevals)
 }
 
-// The coefficients are made anew from n and the options: a record cannot hold others.
-fn adaptive(o: SimplexOptions, n: usize) -> bool
-    ensures { λ r. ⌜ r ≡ adapts o n ⌝ }
+// Vertex i drawn to the best, and asked for.
+fn shrink(fit: Fixed, s: Simplex, i: usize) -> Simplex
+    requires { ⌜ fit .n ≤ 16 ⌝ }
+    requires { ⌜ i ≤ 16 ⌝ }
+    ensures { λ r. ⌜ r ≡ shrinkOf fit s i ⌝ }
 {
-    if o.adaptive {
-        return 2 < n;
-    }
-    false
+    let n = fit.n;
+    let o = fit.options;
+    let best = s.v[0];
+    let old = s.v[i];
+    let b = best.x;
+    let w = old.x;
+    let x = vector::shrunk(b, w, vertices::reduction(o, n), n);
+    let mut q = s;
+    q.phase = SHRINKING;
+    q.at = i;
+    q.x = x;
+    q
 }
 
-// The expansion's coefficient.
-fn expansion(o: SimplexOptions, n: usize) -> f64
-    requires { ⌜ n ≤ 16 ⌝ }
-    ensures { λ r. ⌜ r ≡ beta o n ⌝ }
+// The answer to the outside contraction.
+fn outside(fit: Fixed, s: Simplex, f: f64, fevals: u64) -> Simplex
+    requires { ⌜ fit .n ≤ 16 ⌝ }
+    ensures { λ r. ⌜ r ≡ outsideOf fit s f fevals ⌝ }
 {
-    if adaptive(o, n) {
-        return 1.0 + 2.0 / ((n as u16) as f64);
+    let x = s.x;
+    let refl = s.refl;
+    if f <= refl.f {
+        return replaced(fit, s, Vertex { x, f }, fevals);
     }
-    2.0
+    shrink(fit, s, 1)
 }
 
-// The contraction's coefficient.
-fn contraction(o: SimplexOptions, n: usize) -> f64
-    requires { ⌜ n ≤ 16 ⌝ }
-    ensures { λ r. ⌜ r ≡ gamma o n ⌝ }
+// The answer to the inside contraction.
+fn inside(fit: Fixed, s: Simplex, f: f64, fevals: u64) -> Simplex
+    requires { ⌜ fit .n ≤ 16 ⌝ }
+    ensures { λ r. ⌜ r ≡ insideOf fit s f fevals ⌝ }
 {
-    if adaptive(o, n) {
-        return 0.75 - 1.0 / (2.0 * ((n as u16) as f64));
+    let n = fit.n;
+    let x = s.x;
+    let worst = s.v[n];
+    if f < worst.f {
+        return replaced(fit, s, Vertex { x, f }, fevals);
     }
-    0.5
+    shrink(fit, s, 1)
 }
 
-// The shrink's coefficient.
-fn reduction(o: SimplexOptions, n: usize) -> f64
-    requires { ⌜ n ≤ 16 ⌝ }
-    ensures { λ r. ⌜ r ≡ delta o n ⌝ }
+// The answer to a vertex drawn to the best.
+fn shrinking(fit: Fixed, s: Simplex, f: f64, fevals: u64) -> Simplex
+    requires { ⌜ fit .n ≤ 16 ⌝ }
+    requires { ⌜ s .at ≤ fit .n ⌝ }
+    ensures { λ r. ⌜ r ≡ shrinkingOf fit s f fevals ⌝ }
 {
-    if adaptive(o, n) {
-        return 1.0 - 1.0 / ((n as u16) as f64);
+    let n = fit.n;
+    let i = s.at;
+    let x = s.x;
+    let mut q = s;
+    q.v[i] = Vertex { x, f };
+    if i < n {
+        return shrink(fit, q, i + 1);
     }
-    0.5
+    headed(fit, q, fevals)
+}
+
+// The value f for the open question, read as fits read values; it is the fevals-th that is accepted. A
+// fit that has ended stays as it is.
+pub fn told(fit: Fixed, s: Simplex, f: f64, fevals: u64) -> Simplex
+    requires { ⌜ 0 < fit .n ⌝ }
+    requires { ⌜ fit .n ≤ 16 ⌝ }
+    requires { ⌜ s .at ≤ fit .n ⌝ }
+    ensures { λ r. ⌜ r ≡ toldOf fit s f fevals ⌝ }
+{
+    let phase = s.phase;
+    if phase == BUILDING {
+        return built(fit, s, f, fevals);
+    }
+    if phase == REFLECTED {
+        return reflected(fit, s, f, fevals);
+    }
+    if phase == EXPANDED {
+        return expanded(fit, s, f, fevals);
+    }
+    if phase == OUTSIDE {
+        return outside(fit, s, f, fevals);
+    }
+    if phase == INSIDE {
+        return inside(fit, s, f, fevals);
+    }
+    if phase == SHRINKING {
+        return shrinking(fit, s, f, fevals);
+    }
+    s
+}
+
+// The start at x: the first vertex of the first simplex is asked for.
+pub fn start(x: [f64; 16]) -> Simplex
+    ensures { λ r. ⌜ r ≡ startOf x ⌝ }
+{
+    let zero = [0.0; 16];
+    let best = Vertex { x, f: 1.0 / 0.0 };
+    let refl = Vertex { x: zero, f: 0.0 };
+    let v = [refl; 17];
+    Simplex {
+        phase: BUILDING,
+        at: 0,
+        rounds: 0,
+        runs: 0,
+        x,
+        best,
+        cen: zero,
+        refl,
+        v,
+    }
 }
