@@ -23,7 +23,7 @@ use Rattle.protocol.specs.RoundsLaws.{Known, Own, Begins, Ends, Opens, Opening}
 use Rattle.protocol.proofs.Texts.{wp-bind, wp-map, grow-one}
 use Rattle.protocol.proofs.Replies.{true-T}
 use Rattle.protocol.proofs.Verdicts.{stop≢restart, go-on≢restart, go-on≢stop, stop-inj, restart-inj}
-use Rattle.protocol.proofs.ExampleLaws.{read-own}
+use Rattle.protocol.proofs.Readings.{read-own}
 use Rattle.neldermead.specs.declared.Vertex.{Vertex}
 use Rattle.neldermead.specs.Algorithm.{Position, vertex, arrive, replaced, butLast, others, askVertex, askVertices, anyFinite, built, build, corners, towards, shrink, expand, contractOutside, contractInside, reflected, alpha, beta, gamma, delta, iterated, rerun, round, tests, converged, reason, opening, nowhere, tolerance, positiveFinite, nelderMead}
 use Rattle.neldermead.specs.Laws.{VertexTold, All, Cover, BestTold, AtHead, SimplexLaws}

@@ -15,7 +15,7 @@ use Rattle.protocol.specs.Protocol.{readOf}
 use Rattle.protocol.specs.Claim.{Exchange}
 use Rattle.protocol.specs.Ask.{heardAt, Grows}
 use Rattle.protocol.proofs.Replies.{true-T, not-above-self}
-use Rattle.protocol.proofs.ExampleLaws.{only, read-below}
+use Rattle.protocol.proofs.Readings.{only, read-below, read-number}
 use Rattle.neldermead.specs.declared.Vertex.{Vertex}
 use Rattle.neldermead.specs.Order.{inOrder}
 use Rattle.neldermead.specs.Algorithm.{Position, better, arrive, anyFinite}
@@ -23,12 +23,6 @@ use Rattle.neldermead.specs.Laws.{VertexTold, All, Cover, BestTold, AtHe
 use Rattle.neldermead.proofs.Order.{order-from, least-first, getD-cases}
 
 -- ---- values
-
-read-number : (v : Float) → Number (readOf v)
-unfolding readOf finiteOf isNan
-read-number nan = tt
-read-number (inf s) = tt
-read-number (fin s m e) = tt
 
 inf-above-finite : (w : Float) → NotAbove (inf false) w → Finite w → ⊥
 unfolding lt finiteOf
