@@ -1,12 +1,12 @@
--- `float_vectors::value` is safe: a pattern whose magnitude is at most the infinity's is no NaN's. Assumes nothing.
+-- `rows::value` is safe: a pattern whose magnitude is at most the infinity's is no NaN's. Assumes nothing.
 use borrow.Author.Needs.{needs}
 use borrow.Author.Tests.{le-ltb}
 use native.Mathlib.Omega.{arith}
 use Prim.Native.Nat.{_%_, _^_}
 use lib.Bits.{and-mask}
 use lib.Ieee.Bits.{nanBits-above}
-use Rattle.float_vectors.proofs.value.Statement.{statement}
-use Rattle.float_vectors.proofs.value.Tie as tie
+use Rattle.rows.proofs.value.Statement.{statement}
+use Rattle.rows.proofs.value.Tie as tie
 
 pub value-spec : {M : Type 1} → statement M
 value-spec =
