@@ -7,7 +7,6 @@ mod line;
 use line::Line;
 use objective::Differences;
 use optim::Answered;
-use optim::Counts;
 use optim::Record;
 use protocol::Kind;
 use protocol::Said;

@@ -1,7 +1,8 @@
 // What the programs that replay a table of the Rust's results share: digits, the bits of values, and
 // the count of rows.
 ghost use mathlib.Core.Path.{_≡_};
-ghost use Prim.Native.Nat.{_≤_, _<_};
+ghost use lib.Ieee.{binary64, ofBits, toBits};
+ghost use Rattle.rows.specs.Rows.{digitOf, noneOf, countedOf};
 
 // What is counted: rows, those that differ, and the first of these.
 pub struct Tally {
@@ -10,34 +11,30 @@ pub struct Tally {
     pub first: u64,
 }
 
-fn wide(b: u8) -> u64
-    ensures { λ r. ⌜ r < 256 ⌝ }
-{
-    b as u64
-}
-
 // A hexadecimal digit's number, or 16 for another byte.
 pub fn digit(b: u8) -> u64
-    ensures { λ r. ⌜ r ≤ 16 ⌝ }
+    ensures { λ r. ⌜ r ≡ digitOf b ⌝ }
 {
     if b < b'0' {
         return 16;
     }
     if b <= b'9' {
-        return wide(b - b'0') % 16;
+        return (b - b'0') as u64;
     }
     if b < b'A' {
         return 16;
     }
     if b <= b'F' {
-        return (wide(b - b'A') + 10) % 16;
+        return (b - b'A') as u64 + 10;
     }
     16
 }
 
 // The value of a bit pattern. Every NaN pattern is taken in as one NaN, since the bits of a NaN are
 // not to be read back.
-pub fn value(bits: u64) -> f64 {
+pub fn value(bits: u64) -> f64
+    ensures { λ r. ⌜ r ≡ ofBits binary64 bits ⌝ }
+{
     if 0x7ff0_0000_0000_0000 < bits & 0x7fff_ffff_ffff_ffff {
         return 0.0 / 0.0;
     }
@@ -45,7 +42,9 @@ pub fn value(bits: u64) -> f64 {
 }
 
 // The bits of a value, one pattern for every NaN.
-pub fn bits_of(x: f64) -> u64 {
+pub fn bits_of(x: f64) -> u64
+    ensures { λ r. ⌜ r ≡ toBits binary64 x ⌝ }
+{
     if x != x {
         return 0x7ff8_0000_0000_0000;
     }
@@ -53,7 +52,9 @@ pub fn bits_of(x: f64) -> u64 {
 }
 
 // Before the first row.
-pub fn none() -> Tally {
+pub fn none() -> Tally
+    ensures { λ r. ⌜ r ≡ noneOf ⌝ }
+{
     Tally {
         rows: 0,
         differ: 0,
@@ -62,7 +63,9 @@ pub fn none() -> Tally {
 }
 
 // One row more. A count stops at the largest u64.
-pub fn counted(t: Tally, same: bool) -> Tally {
+pub fn counted(t: Tally, same: bool) -> Tally
+    ensures { λ r. ⌜ r ≡ countedOf t same ⌝ }
+{
     if t.rows == u64::MAX {
         return t;
     }
