@@ -1,53 +1,129 @@
 -- What a valid record's numbers keep to, and that each reply can stand. Assumes nothing.
-use Prim.Native.Nat.{ℕ, _≤_, _<_, zero-le}
+use Prim.Native.Nat.{ℕ, _+_, _*_, _^_, _≤_, _<_, zero-le}
+use native.Mathlib.Nat.{le-trans, lt-of-le-of-lt, mul-le-mul-left, mul-le-mul-right}
 use mathlib.Core.Path.{_≡_, refl, sym, subst}
 use mathlib.Core.Bool.{Bool, true, false, not, cond}
 use mathlib.Core.List.{List}
 use native.Mathlib.Omega.{arith}
-use lib.Dec.{T, eqb, ltb}
+use lib.Dec.{T, eqb, ltb, leb}
 use lib.ListN.{length}
 use lib.Ieee.{Float}
-use borrow.Author.Tests.{ltb-false, eqb-true, eqb-false}
+use borrow.Author.Tests.{ltb-false, leb-true, eqb-true, eqb-false, ne-eqb, eq-eqb}
+use Rattle.protocol.specs.declared.SimplexOptions.{SimplexOptions}
+use Rattle.protocol.specs.declared.Allowances.{Allowances}
 use Rattle.objective.specs.Step.{begunOf}
 use Rattle.objective.proofs.Follows.{told-within}
 use Rattle.optim.specs.declared.Record.{Record}
-use Rattle.optim.specs.Record.{differencesMark, most, validOf, Ranges, Stands}
+use Rattle.optim.specs.Record.{simplexMark, differencesMark, most, mostAllowed, mostRestarts, lastPhase, validSimplexOf, validOf, Ranges, Open, Stands}
 use Rattle.optim.specs.Answer.{overOf, steppedOf, suitsOf}
-use Rattle.optim.specs.Start.{begunRecordOf}
+use Rattle.optim.specs.Start.{begunRecordOf, excessOf, pastLimitsOf, toleranceOf, positiveOf, startRefusalOf, simplexRecordOf}
 
 -- a chain of tests that is true has passed each
 passed : (b x : Bool) → cond b false x ≡ true → (b ≡ false) × (x ≡ true)
 passed true x e = absurd (subst T (sym e) tt)
 passed false x e = (refl, e)
 
+-- what a simplex record in range keeps to
+simplex-ranges : (r : Record) → validSimplexOf r ≡ true → (0 < r .n) × (r .simplex .at ≤ r .n)
+unfolding validSimplexOf
+simplex-ranges r e =
+    let a = passed (eqb (r .n) 0) _ e in
+    let b = passed (ltb (r .n) (r .simplex .at)) _ (a .1) in
+    (above (r .n) (eqb-false (r .n) 0 (a .0)), ltb-false _ _ (b .0))
+  where
+    above : (n : ℕ) → (n ≡ 0 → ⊥) → 0 < n
+    above n d = omega arith
+
+-- by the job: its part is in range
+parts : (r : Record) (b : Bool) → eqb (r .job) simplexMark ≡ b
+    → cond b (validSimplexOf r) (cond (eqb (r .job) differencesMark) (leb (r .diff .at) (r .n)) false) ≡ true
+    → (r .job ≡ simplexMark → (0 < r .n) × (r .simplex .at ≤ r .n)) × ((r .job ≡ simplexMark → ⊥) → r .diff .at ≤ r .n)
+parts r true e v = (λ j. simplex-ranges r v, λ d. absurd (d (eqb-true _ _ e)))
+parts r false e v = (λ j. absurd (eqb-false _ _ e j), λ d. within (eqb (r .job) differencesMark) v)
+  where
+    within : (c : Bool) → cond c (leb (r .diff .at) (r .n)) false ≡ true → r .diff .at ≤ r .n
+    within true h = leb-true _ _ h
+    within false h = absurd (subst T (sym h) tt)
+
 pub ranges : (r : Record) → validOf r ≡ true → Ranges r
 unfolding validOf
 ranges r e =
-    let a = passed (not (eqb (r .job) differencesMark)) _ e in
-    let b = passed (ltb 16 (r .n)) _ (a .1) in
-    let c = passed (ltb (r .n) (r .diff .at)) _ (b .1) in
-    let d = passed (ltb most (r .accepted)) _ (c .1) in
-    let f = passed (ltb most (r .counts .fevals)) _ (d .1) in
-    record { few = ltb-false _ _ (b .0); within = ltb-false _ _ (c .0); numbers = ltb-false _ _ (d .0); values = ltb-false _ _ (f .0) }
+    let a = passed (ltb 16 (r .n)) _ e in
+    let b = passed (ltb most (r .accepted)) _ (a .1) in
+    let c = passed (ltb most (r .counts .fevals)) _ (b .1) in
+    let d = passed (ltb most (r .counts .gevals)) _ (c .1) in
+    let p = parts r (eqb (r .job) simplexMark) refl (d .1) in
+    record {
+      few = ltb-false _ _ (a .0);
+      numbers = ltb-false _ _ (b .0);
+      values = ltb-false _ _ (c .0);
+      some = λ j. p .0 j .0;
+      vertex = λ j. p .0 j .1;
+      coordinate = p .1;
+    }
 
 -- the record of a job that has not ended has a coordinate to come
-pub open-within : (r : Record) → Ranges r → overOf r ≡ false → r .diff .at < r .n
+pub open-of : (r : Record) → Ranges r → overOf r ≡ false → Open r
 unfolding overOf
-open-within r h e = less (r .diff .at) (r .n) (h .within) (eqb-false (r .diff .at) (r .n) e)
+open-of r h e = record { next = λ d. less (r .diff .at) (r .n) (h .coordinate d) (eqb-false _ _ (rw (ne-eqb _ _ d) at e)) }
   where
     less : (a n : ℕ) → a ≤ n → (a ≡ n → ⊥) → a < n
     less a n l d = omega arith
 
 pub stands : (r : Record) → Ranges r → Stands r
-stands r h = record { few = h .few; within = h .within; numbers = omega (arith, h .numbers) }
+stands r h = record { few = h .few; numbers = omega (arith, h .numbers); coordinate = h .coordinate }
 
-pub stepped-stands : (r : Record) (v : Float) → Ranges r → r .diff .at < r .n → Stands (steppedOf r v)
+pub stepped-stands : (r : Record) (v : Float) → Ranges r → Open r → Stands (steppedOf r v)
 unfolding steppedOf
-stepped-stands r v h l = record { few = h .few; within = told-within (r .n) (r .diff) v l; numbers = omega (arith, h .numbers) }
+stepped-stands r v h l = at (eqb (r .job) simplexMark) refl
+  where
+    at : (b : Bool) → eqb (r .job) simplexMark ≡ b → Stands (steppedOf r v)
+    at true e = rw e (record { few = h .few; numbers = omega (arith, h .numbers); coordinate = h .coordinate })
+    at false e = rw e (record { few = h .few; numbers = omega (arith, h .numbers); coordinate = λ d. told-within (r .n) (r .diff) v (l .next d) })
 
 pub begun-stands : (x : List Float) → length x ≤ 16 → Stands (begunRecordOf x)
 unfolding begunRecordOf begunOf
-begun-stands x h = record { few = h; within = zero-le; numbers = zero-le }
+begun-stands x h = record { few = h; numbers = zero-le; coordinate = λ d. zero-le }
+
+pub simplex-stands : (point : List Float) (n : ℕ) (o : SimplexOptions) (a : Allowances) → n ≤ 16 → Stands (simplexRecordOf point n o a)
+unfolding simplexRecordOf
+simplex-stands point n o a h = record { few = h; numbers = zero-le; coordinate = λ d. absurd (d refl) }
+
+-- a chain of tests that is false has met none
+missed : (b x : Bool) → cond b true x ≡ false → (b ≡ false) × (x ≡ false)
+missed true x e = absurd (subst T e tt)
+missed false x e = (refl, e)
+
+within-limits : (count : ℕ) (o : SimplexOptions) (a : Allowances) → pastLimitsOf count o a ≡ false → (count ≤ 16) × (o .restarts ≤ 100)
+unfolding pastLimitsOf
+within-limits count o a e =
+    let f = missed (ltb 16 count) _ e in
+    let g = missed (excessOf (a .iter)) _ (f .1) in
+    let h = missed (excessOf (a .fevals)) _ (g .1) in
+    (ltb-false _ _ (f .0), ltb-false _ _ (h .1))
+
+-- a start that meets no refusal keeps to 2's limits
+pub start-limits : (count : ℕ) (o : SimplexOptions) (a : Allowances) → startRefusalOf count o a .number ≡ 0 → (count ≤ 16) × (o .restarts ≤ 100)
+unfolding startRefusalOf
+start-limits count o a e = at (pastLimitsOf count o a) refl e
+  where
+    two : _≡_ {A = ℕ} 2 0 → ⊥
+    two q = omega arith
+
+    at : (b : Bool) → pastLimitsOf count o a ≡ b → startRefusalOf count o a .number ≡ 0 → (count ≤ 16) × (o .restarts ≤ 100)
+    at true h z = absurd (two (rw h at z))
+    at false h z = within-limits count o a h
+
+-- an allowance's default is a u64
+pub default-fits : (n k : ℕ) → n ≤ 16 → k ≤ 100 → 200 * n * (1 + k) < 2 ^ 64
+default-fits n k h j = lt-of-le-of-lt (le-trans (mul-le-mul-right (1 + k) (small n h)) (mul-le-mul-left 3200 (more k j))) below
+  where
+    small : (n : ℕ) → n ≤ 16 → 200 * n ≤ 3200
+    small n h = omega arith
+    more : (k : ℕ) → k ≤ 100 → 1 + k ≤ 101
+    more k j = omega arith
+    below : 3200 * 101 < 2 ^ 64
+    below = omega arith
 
 -- an answer that suits has its one word
 pub one-word : (kind : ℕ) (words : List Float) → suitsOf kind (length words) ≡ true → length words ≡ 1

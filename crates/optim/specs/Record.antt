@@ -1,11 +1,16 @@
 -- The record: the blank one, what is in range (refusal 1), and a reply with its record in 01's words. Definitions only.
-use Prim.Native.Nat.{ℕ, _+_, _≤_}
-use mathlib.Core.Bool.{Bool, false, cond, not}
+use Prim.Native.Nat.{ℕ, _+_, _≤_, _<_}
+use mathlib.Core.Path.{_≡_}
+use mathlib.Core.Bool.{Bool, false, cond}
 use lib.Dec.{leb, ltb, eqb}
 use lib.ListN.{replicate}
 use Rattle.float.specs.Binary64.{plusZero}
+use Rattle.protocol.specs.declared.SimplexOptions.{SimplexOptions}
 use Rattle.protocol.specs.Protocol.{Reply, replyOf}
 use Rattle.objective.specs.Step.{begunOf}
+use Rattle.neldermead.specs.declared.Vertex.{Vertex}
+use Rattle.neldermead.specs.declared.Fixed.{Fixed}
+use Rattle.neldermead.specs.declared.Simplex.{Simplex}
 use Rattle.optim.specs.declared.Record.{Record}
 use Rattle.optim.specs.declared.Answered.{Answered}
 
@@ -14,12 +19,36 @@ unfoldable pub outcomeOf : Answered → Reply × Record
 unfolding replyOf
 outcomeOf a = (replyOf (a .said) (a .next .n) (a .x) (a .g), a .next)
 
+-- what an unused part of a record holds
+abbrev pub noOptions : SimplexOptions
+noOptions = record { xtol = plusZero; ftol = plusZero; step = plusZero; restarts = 0; adaptive = false }
+
+abbrev pub noVertex : Vertex
+noVertex = record { x = replicate 16 plusZero; f = plusZero }
+
+unfoldable pub idleOf : Simplex
+idleOf =
+    record { phase = 0; at = 0; rounds = 0; runs = 0; x = replicate 16 plusZero; best = noVertex; cen = replicate 16 plusZero; refl = noVertex; v = replicate 17 noVertex }
+
 -- the record of a refused start
 unfoldable pub blankOf : Record
-unfolding begunOf
-blankOf = record { accepted = 0; job = 0; n = 0; counts = record { fevals = 0; gevals = 0 }; diff = begunOf (replicate 16 plusZero) }
+unfolding begunOf idleOf
+blankOf =
+    record {
+      accepted = 0;
+      job = 0;
+      n = 0;
+      counts = record { fevals = 0; gevals = 0 };
+      limits = record { iter = 0; fevals = 0 };
+      options = noOptions;
+      diff = begunOf (replicate 16 plusZero);
+      simplex = idleOf;
+    }
 
--- the mark of the job `differences`
+-- the marks of the jobs
+abbrev pub simplexMark : ℕ
+simplexMark = 1
+
 abbrev pub differencesMark : ℕ
 differencesMark = 5
 
@@ -27,25 +56,64 @@ differencesMark = 5
 abbrev pub most : ℕ
 most = 40000000000
 
--- Refusal 1, for the parts that are there: "The record has n above 16 (or 0, other than for differences), a position above n, .. an unknown mark or any count above 4·10^10."
+-- 2's limits, of allowances and of restarts
+abbrev pub mostAllowed : ℕ
+mostAllowed = 1000000
+
+abbrev pub mostRestarts : ℕ
+mostRestarts = 100
+
+-- the last phase with an open question, and the last of all
+abbrev pub lastAsking : ℕ
+lastAsking = 6
+
+abbrev pub lastPhase : ℕ
+lastPhase = 11
+
+-- what the start of a simplex fit fixed
+abbrev pub fixedOf : Record → Fixed
+fixedOf r = record { n = r .n; options = r .options; iter = r .limits .iter; fevals = r .limits .fevals }
+
+-- of the simplex part: n 0, a position above n, an unknown mark, a count above 4·10^10, an option past 2's limits
+unfoldable pub validSimplexOf : Record → Bool
+validSimplexOf r =
+    cond (eqb (r .n) 0) false
+    (cond (ltb (r .n) (r .simplex .at)) false
+    (cond (eqb (r .simplex .phase) 0) false
+    (cond (ltb lastPhase (r .simplex .phase)) false
+    (cond (ltb most (r .simplex .rounds)) false
+    (cond (ltb most (r .simplex .runs)) false
+    (cond (ltb mostAllowed (r .limits .iter)) false
+    (cond (ltb mostAllowed (r .limits .fevals)) false
+    (leb (r .options .restarts) mostRestarts))))))))
+
+-- Refusal 1, for the parts that are there: "The record has n above 16 (or 0, other than for differences), a position above n, .. an option past 2's limits, an unknown mark
+-- or any count above 4·10^10." A part that the job does not use is not looked at.
 unfoldable pub validOf : Record → Bool
+unfolding validSimplexOf
 validOf r =
-    cond (not (eqb (r .job) differencesMark)) false
-    (cond (ltb 16 (r .n)) false
-    (cond (ltb (r .n) (r .diff .at)) false
+    cond (ltb 16 (r .n)) false
     (cond (ltb most (r .accepted)) false
     (cond (ltb most (r .counts .fevals)) false
-    (leb (r .counts .gevals) most)))))
+    (cond (ltb most (r .counts .gevals)) false
+    (cond (eqb (r .job) simplexMark) (validSimplexOf r)
+    (cond (eqb (r .job) differencesMark) (leb (r .diff .at) (r .n)) false)))))
 
 -- what the numbers of a valid record keep to
 pub record Ranges (r : Record) : Type 0 where
   pub few : r .n ≤ 16
-  pub within : r .diff .at ≤ r .n
   pub numbers : r .accepted ≤ most
   pub values : r .counts .fevals ≤ most
+  pub some : r .job ≡ simplexMark → 0 < r .n
+  pub vertex : r .job ≡ simplexMark → r .simplex .at ≤ r .n
+  pub coordinate : (r .job ≡ simplexMark → ⊥) → r .diff .at ≤ r .n
+
+-- a question stands open, so that differences have a coordinate to come
+pub record Open (r : Record) : Type 0 where
+  pub next : (r .job ≡ simplexMark → ⊥) → r .diff .at < r .n
 
 -- what the reply that stands asks of a record: the number of its question may be one above the counts' bound
 pub record Stands (r : Record) : Type 0 where
   pub few : r .n ≤ 16
-  pub within : r .diff .at ≤ r .n
   pub numbers : r .accepted ≤ most + 1
+  pub coordinate : (r .job ≡ simplexMark → ⊥) → r .diff .at ≤ r .n

@@ -1,24 +1,43 @@
 // The engine: one start for each job, and one call for each answer. The record goes in by value and
 // comes back beside the reply.
+mod stands;
+mod starts;
+
+use neldermead::Simplex;
 use objective::Differences;
-use protocol::Kind;
+use protocol::Allowances;
 use protocol::Said;
+use protocol::SimplexOptions;
 ghost use mathlib.Core.Path.{_≡_};
-ghost use Prim.Native.Nat.{_≤_, _<_};
+ghost use Prim.Native.Nat.{_≤_};
 ghost use lib.ListN.{length};
-ghost use Rattle.optim.specs.Record.{blankOf, outcomeOf, validOf, Ranges, Stands};
-ghost use Rattle.optim.specs.Answer.{refusedOf, overOf, standingOf, repeatsOf, steppedOf, takenOf, suitsOf, heardOf, answerOf};
-ghost use Rattle.optim.specs.Start.{begunRecordOf, differencesOf};
+ghost use Rattle.optim.specs.Record.{outcomeOf, validSimplexOf, validOf, Ranges, Open};
+ghost use Rattle.optim.specs.Answer.{refusedOf, repeatsOf, steppedOf, takenOf, suitsOf, heardOf, answerOf};
+ghost use Rattle.optim.specs.Start.{differencesOf, simplexOf};
 
 // The job marks that are known.
+const SIMPLEX: u64 = 1;
+
 const DIFFERENCES: u64 = 5;
 // Any count above this is out of range.
 const MOST: u64 = 40_000_000_000;
+// Allowances and restarts above these are past the limits.
+const MOST_ALLOWED: u64 = 1_000_000;
+
+const MOST_RESTARTS: u64 = 100;
+// The last mark of a phase.
+const LAST_PHASE: u64 = 11;
 
 // Accepted V answers, and accepted G answers.
 pub struct Counts {
     pub fevals: u64,
     pub gevals: u64,
+}
+
+// max_iter and max_fevals of a fit, an absent one as its default.
+pub struct Limits {
+    pub iter: u64,
+    pub fevals: u64,
 }
 
 // All that the engine keeps between two calls. `accepted` is the number last accepted, 0 before the
@@ -28,7 +47,10 @@ pub struct Record {
     pub job: u64,
     pub n: usize,
     pub counts: Counts,
+    pub limits: Limits,
+    pub options: SimplexOptions,
     pub diff: Differences,
+    pub simplex: Simplex,
 }
 
 // A reply, with the point and the gradient that it speaks of, and the record for the next call.
@@ -39,22 +61,44 @@ pub struct Answered {
     pub next: Record,
 }
 
-// The record of a refused start: all zeros, with a mark that no job has.
-fn blank() -> Record
-    ensures { λ r. ⌜ r ≡ blankOf ⌝ }
+// A refusal's number and detail, 0 and 0 for none.
+pub struct Refusal {
+    pub number: u64,
+    pub detail: u64,
+}
+
+// Whether a record of the job simplex is in range.
+fn valid_simplex(r: Record) -> bool
+    ensures { λ b. ⌜ b ≡ validSimplexOf r ⌝ }
 {
-    let counts = Counts {
-        fevals: 0,
-        gevals: 0,
-    };
-    let diff = objective::begun([0.0; 16]);
-    Record {
-        accepted: 0,
-        job: 0,
-        n: 0,
-        counts,
-        diff,
+    let s = r.simplex;
+    let limits = r.limits;
+    let o = r.options;
+    if r.n == 0 {
+        return false;
     }
+    if r.n < s.at {
+        return false;
+    }
+    if s.phase == 0 {
+        return false;
+    }
+    if LAST_PHASE < s.phase {
+        return false;
+    }
+    if MOST < s.rounds {
+        return false;
+    }
+    if MOST < s.runs {
+        return false;
+    }
+    if MOST_ALLOWED < limits.iter {
+        return false;
+    }
+    if MOST_ALLOWED < limits.fevals {
+        return false;
+    }
+    o.restarts <= MOST_RESTARTS
 }
 
 // Refusal 1: whether the record is in range.
@@ -63,13 +107,7 @@ pub fn valid(r: Record) -> bool
 {
     let counts = r.counts;
     let diff = r.diff;
-    if r.job != DIFFERENCES {
-        return false;
-    }
     if 16 < r.n {
-        return false;
-    }
-    if r.n < diff.at {
         return false;
     }
     if MOST < r.accepted {
@@ -78,7 +116,16 @@ pub fn valid(r: Record) -> bool
     if MOST < counts.fevals {
         return false;
     }
-    counts.gevals <= MOST
+    if MOST < counts.gevals {
+        return false;
+    }
+    if r.job == SIMPLEX {
+        return valid_simplex(r);
+    }
+    if r.job == DIFFERENCES {
+        return diff.at <= r.n;
+    }
+    false
 }
 
 // A refusal: the record comes back as it was.
@@ -96,40 +143,6 @@ fn refused(r: Record, number: u64, detail: u64) -> Answered
     }
 }
 
-// Whether the job has ended.
-fn over(r: Record) -> bool
-    ensures { λ b. ⌜ b ≡ overOf r ⌝ }
-{
-    let diff = r.diff;
-    diff.at == r.n
-}
-
-// The question or the outcome that stands.
-fn standing(r: Record) -> Answered
-    requires { ⌜ Stands r ⌝ }
-    ensures { λ a. ⌜ outcomeOf a ≡ standingOf r ⌝ }
-{
-    let diff = r.diff;
-    if diff.at == r.n {
-        let x = diff.x;
-        let g = diff.g;
-        return Answered {
-            said: Said::Differenced,
-            x,
-            g,
-            next: r,
-        };
-    }
-    let x = objective::probe(diff);
-    let g = [0.0; 16];
-    Answered {
-        said: Said::Ask(r.accepted + 1, Kind::Value),
-        x,
-        g,
-        next: r,
-    }
-}
-
 // Whether a number is that of the last accepted answer; before the first none is.
 fn repeats(accepted: u64, number: u64) -> bool
     ensures { λ b. ⌜ b ≡ repeatsOf accepted number ⌝ }
@@ -140,33 +153,42 @@ fn repeats(accepted: u64, number: u64) -> bool
     number == accepted
 }
 
-// The record after the value v that was asked for.
+// The record after the value v that was asked for. In a fit the value is read; differences take it as
+// it is.
 fn stepped(r: Record, v: f64) -> Record
     requires { ⌜ Ranges r ⌝ }
-    requires { ⌜ r .diff .at < r .n ⌝ }
+    requires { ⌜ Open r ⌝ }
     ensures { λ q. ⌜ q ≡ steppedOf r v ⌝ }
 {
-    let mut counts = r.counts;
+    let counts = r.counts;
     let old = r.diff;
-    counts.fevals = counts.fevals + 1;
-    let diff = objective::told(old, v);
-    Record {
-        accepted: r.accepted + 1,
-        job: r.job,
-        n: r.n,
-        counts,
-        diff,
+    let s = r.simplex;
+    let fevals = counts.fevals + 1;
+    let gevals = counts.gevals;
+    let more = Counts { fevals, gevals };
+    let mut q = r;
+    q.accepted = r.accepted + 1;
+    q.counts = more;
+    if r.job == SIMPLEX {
+        let fit = stands::fixed(r);
+        let f = objective::read(v);
+        let next = neldermead::told(fit, s, f, fevals);
+        q.simplex = next;
+        return q;
     }
+    let next = objective::told(old, v);
+    q.diff = next;
+    q
 }
 
 // The reply to the value v that was asked for.
 fn taken(r: Record, v: f64) -> Answered
     requires { ⌜ Ranges r ⌝ }
-    requires { ⌜ r .diff .at < r .n ⌝ }
+    requires { ⌜ Open r ⌝ }
     ensures { λ a. ⌜ outcomeOf a ≡ takenOf r v ⌝ }
 {
     let q = stepped(r, v);
-    standing(q)
+    stands::standing(q)
 }
 
 // Whether an answer's kind and count of words are those of the open question: a value.
@@ -186,10 +208,10 @@ fn heard(r: Record, number: u64, kind: u8, words: &[f64]) -> Answered
 {
     let due = r.accepted + 1;
     let repeated = repeats(r.accepted, number);
-    let ended = over(r);
+    let ended = stands::over(r);
     let suited = suits(kind, words.len());
     if repeated {
-        return standing(r);
+        return stands::standing(r);
     }
     if ended {
         return refused(r, 15, 0);
@@ -216,36 +238,34 @@ pub fn answer(r: Record, number: u64, kind: u8, words: &[f64]) -> Answered
     refused(r, 1, 0)
 }
 
-// The first record of differences at the point that x lists.
-fn begun_record(x: &[f64]) -> Record
-    requires { ⌜ length (now x) ≤ 16 ⌝ }
-    ensures { λ r. ⌜ r ≡ begunRecordOf (now (x .entry)) ⌝ }
-{
-    let n = x.len();
-    let counts = Counts {
-        fevals: 0,
-        gevals: 0,
-    };
-    let point = vector::from_slice(x, n);
-    let diff = objective::begun(point);
-    Record {
-        accepted: 0,
-        job: DIFFERENCES,
-        n,
-        counts,
-        diff,
-    }
-}
-
 // Starts central differences at x. A list of more than sixteen is refused with 2; of none it ends at
 // once with an empty gradient.
 pub fn differences(x: &[f64]) -> Answered
     ensures { λ a. ⌜ outcomeOf a ≡ differencesOf (now (x .entry)) ⌝ }
 {
     if 16 < x.len() {
-        let none = blank();
+        let none = starts::blank();
         return refused(none, 2, 0);
     }
-    let r = begun_record(x);
-    standing(r)
+    let r = starts::begun_record(x);
+    stands::standing(r)
+}
+
+// Starts a simplex fit at x. It is refused with 2, 4, 8, 9 or 12, looked for in that order.
+pub fn simplex(x: &[f64], o: SimplexOptions, a: Allowances) -> Answered
+    ensures { λ r. ⌜ outcomeOf r ≡ simplexOf (now (x .entry)) o a ⌝ }
+{
+    let n = x.len();
+    let why = starts::start_refusal(n, o, a);
+    if why.number != 0 {
+        let none = starts::blank();
+        return refused(none, why.number, why.detail);
+    }
+    let point = vector::from_slice(x, n);
+    if !vector::all_finite(point, n) {
+        let none = starts::blank();
+        return refused(none, 12, 1);
+    }
+    let r = starts::simplex_record(point, n, o, a);
+    stands::standing(r)
 }

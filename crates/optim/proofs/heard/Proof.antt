@@ -2,7 +2,7 @@
 use borrow.Author.Needs.{needs}
 use borrow.Author.Tests.{eq-eqb, ne-eqb}
 use Rattle.optim.specs.Answer.{heardOf}
-use Rattle.optim.proofs.Ranges.{stands, open-within, one-word}
+use Rattle.optim.proofs.Ranges.{stands, open-of, one-word}
 use mathlib.Core.Path.{sym, _∙_}
 use borrow.Author.Tests.{not-false}
 use native.Mathlib.Omega.{arith}
@@ -27,5 +27,5 @@ heard-spec =
     (λ c κs. search needs)
     (λ c. rw (← c .before .before .before .before .before .before .before .repeats .ensures, ← c .before .before .before .before .before .before .over .ensures, ← c .before .before .before .before .before .suits .ensures, ← c .refused3 .ensures, c .before .before .before .before .if1 .left, c .before .before .before .if2 .left, eq-eqb _ _ (c .before .before .if3 .left), c .before .if4 .taken))
     (λ c. omega (arith, one-word (c .before .before .before .before .before .before .before .before .before .before .args .kind) (c .before .before .before .before .before .before .before .before .before .before .args .words .now) (sym (c .before .before .before .before .before .suits .ensures) ∙ not-false _ (c .before .if4 .left))))
-    (λ c κs. (c .before .before .before .before .before .before .before .before .before .before .pre, open-within (c .before .before .before .before .before .before .before .before .before .before .args .r) (c .before .before .before .before .before .before .before .before .before .before .pre) (sym (c .before .before .before .before .before .before .over .ensures) ∙ c .before .before .before .if2 .left)))
+    (λ c κs. (c .before .before .before .before .before .before .before .before .before .before .pre, open-of (c .before .before .before .before .before .before .before .before .before .before .args .r) (c .before .before .before .before .before .before .before .before .before .before .pre) (sym (c .before .before .before .before .before .before .over .ensures) ∙ c .before .before .before .if2 .left)))
     (λ c. rw (← c .before .before .before .before .before .before .before .before .repeats .ensures, ← c .before .before .before .before .before .before .before .over .ensures, ← c .before .before .before .before .before .before .suits .ensures, ← c .taken .ensures, c .before .before .before .before .before .if1 .left, c .before .before .before .before .if2 .left, eq-eqb _ _ (c .before .before .before .if3 .left), c .before .before .if4 .left)))

@@ -1,6 +1,9 @@
 -- `optim::stepped` meets its contract: each return follows the calls and tests that led to it. Assumes nothing.
 use borrow.Author.Needs.{needs}
+use borrow.Author.Tests.{eq-eqb, ne-eqb}
 use Rattle.optim.specs.Answer.{steppedOf}
+use mathlib.Core.Path.{sym, subst}
+use native.Mathlib.Omega.{arith}
 use Rattle.optim.proofs.stepped.Statement.{statement}
 use Rattle.optim.proofs.stepped.Tie as tie
 
@@ -10,6 +13,10 @@ stepped-spec =
     tie.close
     (tie.spec
     (λ c. search needs)
-    (λ c κs. search needs)
     (λ c. search needs)
-    (λ c. rw (← c .before .told .ensures)))
+    (λ c κs. search needs)
+    (λ c κs. search needs)
+    (λ c κs. rw (c .before .fixed .ensures) ((c .before .before .before .before .before .before .before .before .before .pre .0 .some (c .before .before .if1 .taken), (c .before .before .before .before .before .before .before .before .before .pre .0 .few, c .before .before .before .before .before .before .before .before .before .pre .0 .vertex (c .before .before .if1 .taken)))))
+    (λ c. rw (← c .before .before .fixed .ensures, ← c .before .read .ensures, ← c .told .ensures, eq-eqb _ _ (c .before .before .before .if1 .taken)))
+    (λ c κs. omega (arith, c .before .before .before .before .before .before .before .pre .1 .next (c .if1 .left), c .before .before .before .before .before .before .before .pre .0 .few))
+    (λ c. rw (← c .told2 .ensures, ne-eqb _ _ (c .before .if1 .left))))

@@ -1,0 +1,30 @@
+-- `optim::simplex` meets its contract: each return follows the calls and tests that led to it. Assumes nothing.
+use borrow.Author.Needs.{needs}
+use borrow.Author.Tests.{eq-eqb, ne-eqb}
+use Rattle.optim.specs.Start.{simplexOf}
+use mathlib.Core.Path.{sym, ap, _∙_, subst}
+use native.Mathlib.Nat.{le-refl}
+use lib.ListN.{length}
+use Rattle.optim.specs.declared.Refusal.{Refusal}
+use Rattle.optim.specs.Record.{Stands}
+use Rattle.optim.proofs.Ranges.{start-limits, simplex-stands}
+use Rattle.optim.proofs.simplex.Statement.{statement}
+use Rattle.optim.proofs.simplex.Tie as tie
+
+pub simplex-spec : {M : Type 1} → statement M
+unfolding simplexOf
+simplex-spec =
+    tie.close
+    (tie.spec
+    (λ c κs. search needs)
+    (λ c κs. search needs)
+    (λ c κs. search needs)
+    (λ c. rw (← c .before .before .before .before .start-refusal .ensures, ← c .before .blank .ensures, ← c .refused .ensures, ne-eqb _ _ (c .before .before .if1 .taken)))
+    (λ c κs. (start-limits (length (c .before .before .before .before .args .x .now)) (c .before .before .before .before .args .o) (c .before .before .before .before .args .a) (sym (ap (λ (w : Refusal). w .number) (c .before .before .start-refusal .ensures)) ∙ c .if1 .left) .0, le-refl _))
+    (λ c κs. start-limits (length (c .before .before .before .before .before .args .x .now)) (c .before .before .before .before .before .args .o) (c .before .before .before .before .before .args .a) (sym (ap (λ (w : Refusal). w .number) (c .before .before .before .start-refusal .ensures)) ∙ c .before .if1 .left) .0)
+    (λ c κs. search needs)
+    (λ c κs. search needs)
+    (λ c. rw (← c .before .before .before .before .before .before .before .start-refusal .ensures, ← c .before .before .before .before .from-slice .ensures, ← c .before .before .before .all-finite .ensures, ← c .before .blank2 .ensures, ← c .refused2 .ensures, eq-eqb _ _ (c .before .before .before .before .before .if1 .left), c .before .before .if2 .taken))
+    (λ c κs. start-limits (length (c .before .before .before .before .before .before .before .args .x .now)) (c .before .before .before .before .before .before .before .args .o) (c .before .before .before .before .before .before .before .args .a) (sym (ap (λ (w : Refusal). w .number) (c .before .before .before .before .before .start-refusal .ensures)) ∙ c .before .before .before .if1 .left))
+    (λ c κs. subst Stands (sym (c .simplex-record .ensures)) (simplex-stands _ (length (c .before .before .before .before .before .before .before .before .args .x .now)) (c .before .before .before .before .before .before .before .before .args .o) (c .before .before .before .before .before .before .before .before .args .a) (start-limits (length (c .before .before .before .before .before .before .before .before .args .x .now)) (c .before .before .before .before .before .before .before .before .args .o) (c .before .before .before .before .before .before .before .before .args .a) (sym (ap (λ (w : Refusal). w .number) (c .before .before .before .before .before .before .start-refusal .ensures)) ∙ c .before .before .before .before .if1 .left) .0)))
+    (λ c. rw (← c .before .before .before .before .before .before .before .start-refusal .ensures, ← c .before .before .before .before .from-slice .ensures, ← c .before .before .before .all-finite .ensures, ← c .before .simplex-record .ensures, ← c .standing .ensures, eq-eqb _ _ (c .before .before .before .before .before .if1 .left), c .before .before .if2 .left)))

@@ -1,0 +1,17 @@
+-- `optim::starts::begun_record` meets its contract: each return follows the calls and tests that led to it. Assumes nothing.
+use borrow.Author.Needs.{needs}
+use Rattle.optim.specs.Start.{begunRecordOf}
+use lib.Ieee.{ofBits}
+use Rattle.optim.proofs.starts.begun_record.Statement.{statement}
+use Rattle.optim.proofs.starts.begun_record.Tie as tie
+
+pub begun-record-spec : {M : Type 1} → statement M
+unfolding begunRecordOf ofBits
+begun-record-spec =
+    tie.close
+    (tie.spec
+    (λ c κs. search needs)
+    (λ c κs. search needs)
+    (λ c κs. search needs)
+    (λ c κs. search needs)
+    (λ c. rw (← c .before .before .before .from-slice .ensures, ← c .before .before .begun .ensures, ← c .before .idle .ensures, ← c .no-options .ensures)))

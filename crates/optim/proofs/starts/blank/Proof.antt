@@ -1,0 +1,16 @@
+-- `optim::starts::blank` meets its contract: each return follows the calls and tests that led to it. Assumes nothing.
+use borrow.Author.Needs.{needs}
+use Rattle.optim.specs.Record.{blankOf}
+use lib.Ieee.{ofBits}
+use Rattle.optim.proofs.starts.blank.Statement.{statement}
+use Rattle.optim.proofs.starts.blank.Tie as tie
+
+pub blank-spec : {M : Type 1} → statement M
+unfolding blankOf ofBits
+blank-spec =
+    tie.close
+    (tie.spec
+    (λ c κs. search needs)
+    (λ c κs. search needs)
+    (λ c κs. search needs)
+    (λ c. rw (← c .before .before .begun .ensures, ← c .before .idle .ensures, ← c .no-options .ensures)))

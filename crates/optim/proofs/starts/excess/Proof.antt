@@ -1,0 +1,12 @@
+-- `optim::starts::excess` meets its contract: each return follows the calls and tests that led to it. Assumes nothing.
+use Rattle.optim.specs.Start.{excessOf}
+use Rattle.optim.proofs.starts.excess.Statement.{statement}
+use Rattle.optim.proofs.starts.excess.Tie as tie
+
+pub excess-spec : {M : Type 1} → statement M
+unfolding excessOf
+excess-spec =
+    tie.close
+    (tie.spec
+    (λ c. rw (c .before .if1 .taken))
+    (λ c. rw (c .if1 .left)))

@@ -1,0 +1,13 @@
+-- `optim::starts::idle` meets its contract: each return follows the calls and tests that led to it. Assumes nothing.
+use mathlib.Core.Path.{refl}
+use Rattle.optim.specs.Record.{idleOf}
+use lib.Ieee.{ofBits}
+use Rattle.optim.proofs.starts.idle.Statement.{statement}
+use Rattle.optim.proofs.starts.idle.Tie as tie
+
+pub idle-spec : {M : Type 1} → statement M
+unfolding idleOf ofBits
+idle-spec =
+    tie.close
+    (tie.spec
+    (λ c. refl))
