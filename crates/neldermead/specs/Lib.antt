@@ -4,3 +4,4 @@ pub mod Phases
 pub mod Laws
 pub mod Counts
 pub mod Vertices
+pub mod Ties
