@@ -8,3 +8,6 @@ pub mod CountsTexts
 pub mod Counts
 pub mod Claim
 pub mod Insertion
+pub mod TiesOrder
+pub mod TiesPoints
+pub mod Ties

@@ -5,3 +5,4 @@ pub mod Laws
 pub mod Counts
 pub mod Vertices
 pub mod Step
+pub mod Ties
