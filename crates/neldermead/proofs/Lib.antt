@@ -11,3 +11,4 @@ pub mod Insertion
 pub mod TiesOrder
 pub mod TiesPoints
 pub mod Ties
+pub mod FollowsShape

@@ -6,3 +6,4 @@ pub mod Counts
 pub mod Vertices
 pub mod Step
 pub mod Ties
+pub mod Follows
