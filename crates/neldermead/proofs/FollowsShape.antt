@@ -1,23 +1,23 @@
 -- Whatever is told, the arrays of the record keep their sizes, and what every point made anew has, all points of the record keep: `told-shaped`, `told-zeros`. Assumes nothing.
-use Prim.Native.Nat.{ℕ, suc, _+_, _-_, _≤_, _<_, zero-le}
+use Prim.Native.Nat.{ℕ, _+_, _-_, _≤_, _<_, zero-le}
 use native.Mathlib.Omega.{arith}
 use mathlib.Core.Path.{_≡_, refl, sym, _∙_, subst}
 use mathlib.Core.Bool.{Bool, true, false, cond}
-use mathlib.Core.List.{List, [], _∷_}
+use mathlib.Core.List.{List}
 use borrow.Author.Tests.{ltb-true, eqb-true, eqb-false}
 use lib.Dec.{leb, ltb, eqb}
 use lib.ListN.{length, length-set, set, replicate, getD-replicate}
 use lib.Seq.{getD-set-same, getD-set-other}
-use lib.Ieee.{Float, lt, le, neg, nan}
-use Rattle.float.specs.Binary64.{_⊗_, plusZero}
+use lib.Ieee.{Float, lt, le, nan}
+use Rattle.float.specs.Binary64.{plusZero}
 use Rattle.vector.specs.Points.{towardsOf, shrunkOf, quotientOf}
 use Rattle.vector.proofs.First.{point-laws}
 use Rattle.neldermead.specs.declared.Vertex.{Vertex}
 use Rattle.neldermead.specs.declared.Fixed.{Fixed}
 use Rattle.neldermead.specs.declared.Simplex.{Simplex}
-use Rattle.neldermead.specs.Algorithm.{alpha, beta, gamma, displaced, better}
+use Rattle.neldermead.specs.Algorithm.{alpha, better}
 use Rattle.neldermead.specs.Vertices.{noVertex, vertexAt, sortedOf, centroidOf, cornerOf, anyFiniteOf, convergedOf}
-use Rattle.neldermead.specs.Step.{building, reflecting, expanding, outer, inner, drawing, byIterations, byFevals, notFinite, vertexOf, phased, asked, withVertex, withRefl, rerun, orderedOf, trialOf, reflectOf, reasonOf, doneOf, testedOf, headedOf, buildOf, settledOf, builtOf, replacedOf, reflectedOf, expandedOf, shrinkOf, outsideOf, insideOf, shrinkingOf, toldOf, startOf}
+use Rattle.neldermead.specs.Step.{building, reflecting, expanding, outer, inner, drawing, byIterations, byFevals, notFinite, vertexOf, phased, asked, withVertex, withRefl, rerun, orderedOf, trialOf, reflectOf, doneOf, testedOf, headedOf, buildOf, settledOf, builtOf, replacedOf, reflectedOf, expandedOf, shrinkOf, outsideOf, insideOf, shrinkingOf, toldOf, startOf}
 use Rattle.neldermead.specs.Ties.{ZeroFrom}
 use Rattle.neldermead.specs.Follows.{EveryPoint, Shaped}
 use Rattle.neldermead.proofs.TiesOrder.{sorted-from}

@@ -12,3 +12,5 @@ pub mod TiesOrder
 pub mod TiesPoints
 pub mod Ties
 pub mod FollowsShape
+pub mod FollowsHead
+pub mod FollowsBuild
