@@ -7,7 +7,7 @@ use mathlib.Core.Bool.{Bool, true, false, cond}
 use mathlib.Core.List.{List, [], _∷_, _++_}
 use borrow.Author.Tests.{ltb-true, ltb-false, eqb-true, eqb-false}
 use lib.Dec.{ltb, eqb, eqb·suc-zero}
-use lib.ListN.{length, getD, set, drop, length-set, drop-of-length-le}
+use lib.ListN.{length, set, drop, length-set, drop-of-length-le}
 use lib.Seq.{drop-cons, getD-set-same, getD-set-other}
 use lib.Ieee.{Float}
 use Rattle.vector.specs.Lists.{first}
@@ -18,9 +18,9 @@ use Rattle.neldermead.specs.declared.Fixed.{Fixed}
 use Rattle.neldermead.specs.declared.Simplex.{Simplex}
 use Rattle.neldermead.specs.Algorithm.{Position, arrive, corners, anyFinite}
 use Rattle.neldermead.specs.Phases.{building, buildOn}
-use Rattle.neldermead.specs.Vertices.{noVertex, vertexAt, cornerOf, anyFiniteOf}
+use Rattle.neldermead.specs.Vertices.{noVertex, vertexAt, anyFiniteOf}
 use Rattle.neldermead.specs.Step.{notFinite, vertexOf, withVertex, phased, headedOf, buildOf, settledOf, builtOf}
-use Rattle.neldermead.specs.Ties.{lowered, loweredTo, VerticesTied}
+use Rattle.neldermead.specs.Ties.{loweredTo, VerticesTied}
 use Rattle.neldermead.specs.Follows.{Shaped, seedOf, Related, RelatedMove, settledMove, Allows}
 use Rattle.neldermead.proofs.Ties.{vertices-tied}
 use Rattle.neldermead.proofs.FollowsHead.{carried, headed-follows}

@@ -14,3 +14,6 @@ pub mod Ties
 pub mod FollowsShape
 pub mod FollowsHead
 pub mod FollowsBuild
+pub mod FollowsShrink
+pub mod FollowsRound
+pub mod Follows
