@@ -28,7 +28,7 @@ starts fit x =
       holds = record { told = refl; left = refl };
     }
 
-module _ (fit : Fixed) (l : Limits) (allows : Allows fit l) (s : Simplex) (shape : Shaped (fit .n) s) (f : Float) (v : ℕ) where
+module _ (fit : Fixed) (s : Simplex) (f : Float) (v : ℕ) where
   -- what the record does at a phase's mark
   abbrev at-mark : Phase → Simplex
   at-mark (building p us x xs) = builtOf fit s f v
@@ -47,17 +47,18 @@ module _ (fit : Fixed) (l : Limits) (allows : Allows fit l) (s : Simplex) (shape
   by-mark (inside p) e = rw e
   by-mark (shrinking p us x xs) e = rw e
 
-  moved : (ph : Phase) → Related fit s ph → RelatedMove fit (at-mark ph) (settledMove l v (move ph (record { x = pointOf ph; f = f })))
-  moved (building p us x xs) r = built-follows fit l allows v s shape p us x xs r f
-  moved (reflecting p) r = reflected-follows fit l allows v s shape f p r
-  moved (expanding p w) r = expanded-follows fit l allows v s shape f p w (pointOf (expanding p w)) (r .point) (r .position) (r .holds)
-  moved (outside p w) r = outside-follows fit l allows v s shape f p w (pointOf (outside p w)) (r .point) (r .position) (r .holds)
-  moved (inside p) r = inside-follows fit l allows v s shape f p (pointOf (inside p)) (r .point) (r .position) (r .holds)
-  moved (shrinking p us x xs) r = shrinking-follows fit l allows v s shape p us x xs r f
+  module _ (l : Limits) (allows : Allows fit l) (h : Shaped (fit .n) s) where
+    moved : (ph : Phase) → Related fit s ph → RelatedMove fit (at-mark ph) (settledMove l v (move ph (record { x = pointOf ph; f = f })))
+    moved (building p us x xs) r = built-follows fit l allows v s h p us x xs r f
+    moved (reflecting p) r = reflected-follows fit l allows v (h .positive) (h .small) s (h .many) f p (pointOf (reflecting p)) (r .point) (r .position) (r .holds)
+    moved (expanding p w) r = expanded-follows fit l allows v (h .positive) (h .small) s (h .many) f p (pointOf (expanding p w)) (r .point) (r .position) w (r .holds)
+    moved (outside p w) r = outside-follows fit l allows v (h .positive) (h .small) s (h .many) f p (pointOf (outside p w)) (r .point) (r .position) w (r .holds)
+    moved (inside p) r = inside-follows fit l allows v (h .positive) (h .small) s (h .many) f p (pointOf (inside p)) (r .point) (r .position) (r .holds)
+    moved (shrinking p us x xs) r = shrinking-follows fit l allows v s h p us x xs r f
 
 follows : (fit : Fixed) (l : Limits) (s : Simplex) (ph : Phase) → Allows fit l → Shaped (fit .n) s → Related fit s ph
     → (w : Float) (v : ℕ) → RelatedMove fit (toldOf fit s (readOf w) v) (settledMove l v (stepOf ph (w ∷ [])))
-follows fit l s ph allows shape r w v = rw (by-mark fit l allows s shape (readOf w) v ph (r .mark)) (moved fit l allows s shape (readOf w) v ph r)
+follows fit l s ph allows shape r w v = rw (by-mark fit s (readOf w) v ph (r .mark)) (moved fit s (readOf w) v l allows shape ph r)
 
 pub simplex-follows : SimplexFollows
 simplex-follows = record { starts = starts; follows = follows; start-shaped = start-shaped; told-shaped = told-shaped; start-zeros = start-zeros; told-zeros = told-zeros }

@@ -92,11 +92,11 @@ module _ (fit : Fixed) (l : Limits) (allows : Allows fit l) (v : ℕ) (small : f
     tested-follows : RelatedMove fit (testedOf fit s v) (headedMove l v (tests p) p)
     unfolding testedOf doneOf reasonOf
     tested-follows =
+        let b = lt (fit .options .ftol) (resolution (absOf (vertexAt (s .v) 0 .f))) in
         let done : converged p ≡ convergedOf (fit .options) (s .v) (fit .n) = sym (tied .converged-of (fit .options) p reads) in
         let last : leb (p .options .restarts) (p .runs) ≡ leb (fit .options .restarts) (s .runs) = rw (at .options, at .runs) in
-        let low : reason p ≡ cond (lt (fit .options .ftol) (resolution (absOf (vertexAt (s .v) 0 .f)))) ObjectiveResolution SimplexTolerance = sym (tied .reason-of (fit .options) p reads) in
-        rw (done, last, low)
-        (by-tests (convergedOf (fit .options) (s .v) (fit .n)) (leb (fit .options .restarts) (s .runs)) (lt (fit .options .ftol) (resolution (absOf (vertexAt (s .v) 0 .f)))) (build (rerun p) (p .best .x)))
+        let low : reason p ≡ cond b ObjectiveResolution SimplexTolerance = sym (tied .reason-of (fit .options) p reads) in
+        rw (done, last, low) (by-tests (convergedOf (fit .options) (s .v) (fit .n)) (leb (fit .options .restarts) (s .runs)) b (build (rerun p) (p .best .x)))
 
   -- ---- the order
   module _ (s : Simplex) (p : Position) (us : List Vertex) (many : length (s .v) ≡ 17) (at : AtPosition fit s p) (same : us ≡ loweredTo (fit .n) (suc (fit .n)) (s .v)) where

@@ -1,7 +1,7 @@
 -- Whatever is told, the arrays of the record keep their sizes, and what every point made anew has, all points of the record keep: `told-shaped`, `told-zeros`. Assumes nothing.
 use Prim.Native.Nat.{ℕ, _+_, _-_, _≤_, _<_, zero-le}
 use native.Mathlib.Omega.{arith}
-use mathlib.Core.Path.{_≡_, refl, sym, _∙_, subst}
+use mathlib.Core.Path.{_≡_, refl, sym, _∙_, ap, subst}
 use mathlib.Core.Bool.{Bool, true, false, cond}
 use mathlib.Core.List.{List}
 use borrow.Author.Tests.{ltb-true, eqb-true, eqb-false}
@@ -17,7 +17,7 @@ use Rattle.neldermead.specs.declared.Fixed.{Fixed}
 use Rattle.neldermead.specs.declared.Simplex.{Simplex}
 use Rattle.neldermead.specs.Algorithm.{alpha, better}
 use Rattle.neldermead.specs.Vertices.{noVertex, vertexAt, sortedOf, centroidOf, cornerOf, anyFiniteOf, convergedOf}
-use Rattle.neldermead.specs.Step.{building, reflecting, expanding, outer, inner, drawing, byIterations, byFevals, notFinite, vertexOf, phased, asked, withVertex, withRefl, rerun, orderedOf, trialOf, reflectOf, doneOf, testedOf, headedOf, buildOf, settledOf, builtOf, replacedOf, reflectedOf, expandedOf, shrinkOf, outsideOf, insideOf, shrinkingOf, toldOf, startOf}
+use Rattle.neldermead.specs.Step.{building, reflecting, expanding, outer, inner, drawing, byIterations, byFevals, notFinite, vertexOf, phased, asked, withVertex, withRefl, withRound, rerun, orderedOf, trialOf, reflectOf, doneOf, testedOf, headedOf, buildOf, settledOf, builtOf, replacedOf, reflectedOf, expandedOf, shrinkOf, outsideOf, insideOf, shrinkingOf, toldOf, startOf}
 use Rattle.neldermead.specs.Ties.{ZeroFrom}
 use Rattle.neldermead.specs.Follows.{EveryPoint, Shaped}
 use Rattle.neldermead.proofs.TiesOrder.{sorted-from}
@@ -44,17 +44,26 @@ module _ (fit : Fixed) (P : List Float → Type 0) (positive : 1 ≤ fit .n) (sm
   either true s t h k = h refl
   either false s t h k = k
 
+  -- with the vertices and the best vertex of s
+  kept : (s t : Simplex) → t .v ≡ s .v → t .best ≡ s .best → t .at ≤ fit .n → P (t .x) → P (t .cen) → P (t .refl .x) → Last s → Last t
+  kept s t e b i x c r h =
+      record {
+        within = i;
+        many = ap length e ∙ h .many;
+        points = record { x = x; best = rw b (h .points .best); cen = c; refl = r; vertices = λ j l. rw e (h .points .vertices j l) };
+      }
+
   phased-last : (s : Simplex) (k : ℕ) → Last s → Last (phased s k)
-  phased-last s k h = record { within = h .within; many = h .many; points = record { x = h .points .x; best = h .points .best; cen = h .points .cen; refl = h .points .refl; vertices = h .points .vertices } }
+  phased-last s k h = kept s (phased s k) refl refl (h .within) (h .points .x) (h .points .cen) (h .points .refl) h
 
   asked-last : (s : Simplex) (k i : ℕ) (x : List Float) → i ≤ fit .n → P x → Last s → Last (asked s k i x)
-  asked-last s k i x l p h = record { within = l; many = h .many; points = record { x = p; best = h .points .best; cen = h .points .cen; refl = h .points .refl; vertices = h .points .vertices } }
+  asked-last s k i x l p h = kept s (asked s k i x) refl refl l p (h .points .cen) (h .points .refl) h
 
   rerun-last : (s : Simplex) → Last s → Last (rerun s)
-  rerun-last s h = record { within = zero-le; many = h .many; points = record { x = h .points .best; best = h .points .best; cen = h .points .cen; refl = h .points .refl; vertices = h .points .vertices } }
+  rerun-last s h = kept s (rerun s) refl refl zero-le (h .points .best) (h .points .cen) (h .points .refl) h
 
   refl-last : (s : Simplex) (u : Vertex) → P (u .x) → Last s → Last (withRefl s u)
-  refl-last s u p h = record { within = h .within; many = h .many; points = record { x = h .points .x; best = h .points .best; cen = h .points .cen; refl = p; vertices = h .points .vertices } }
+  refl-last s u p h = kept s (withRefl s u) refl refl (h .within) (h .points .x) (h .points .cen) p h
 
   vertex-last : (s : Simplex) (i : ℕ) (u : Vertex) → P (u .x) → Last s → Last (withVertex s i u)
   vertex-last s i u p h =
@@ -95,8 +104,8 @@ module _ (fit : Fixed) (P : List Float → Type 0) (positive : 1 ≤ fit .n) (sm
   reflect-last : (s : Simplex) → Last s → Last (reflectOf (fit .n) s)
   unfolding reflectOf
   reflect-last s h =
-      trial-last _ reflecting alpha
-      (record { within = h .within; many = h .many; points = record { x = h .points .x; best = h .points .best; cen = makes .centroid-of (s .v); refl = h .points .refl; vertices = h .points .vertices } })
+      let q = withRound s (centroidOf (s .v) (fit .n)) in
+      trial-last q reflecting alpha (kept s q refl refl (h .within) (h .points .x) (makes .centroid-of (s .v)) (h .points .refl) h)
 
   tested-last : (s : Simplex) (v : ℕ) → Last s → Last (testedOf fit s v)
   unfolding testedOf doneOf
@@ -132,7 +141,8 @@ module _ (fit : Fixed) (P : List Float → Type 0) (positive : 1 ≤ fit .n) (sm
         either (ltb (s .at) (fit .n)) _ _
         (λ e.
         let l : s .at < fit .n = ltb-true (s .at) (fit .n) e in
-        asked-last (withVertex s (s .at) new) (s .phase) (s .at + 1) _ (omega arith) (makes .corner-of (fit .options .step) _ (s .at) l (new-last .points .vertices 0 (omega arith))) new-last)
+        asked-last (withVertex s (s .at) new) (s .phase) (s .at + 1) _ (omega arith)
+        (makes .corner-of (fit .options .step) _ (s .at) l (new-last .points .vertices 0 (omega arith))) new-last)
         (either (anyFiniteOf (set (s .v) (s .at) new) (fit .n + 1)) _ _ (λ e. headed-last _ v new-last) (phased-last _ notFinite new-last))
 
     reflected-last : Last (reflectedOf fit s f v)

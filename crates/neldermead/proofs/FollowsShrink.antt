@@ -10,8 +10,7 @@ use lib.Dec.{ltb}
 use lib.ListN.{length, getD, set, drop, length-set, length-map, drop-of-length-le}
 use lib.Seq.{drop-cons, getD-set-other}
 use lib.Ieee.{Float}
-use Rattle.vector.specs.Lists.{first, shrunk}
-use Rattle.vector.specs.Points.{shrunkOf}
+use Rattle.vector.specs.Lists.{shrunk}
 use Rattle.vector.proofs.First.{ties}
 use Rattle.protocol.specs.Rounds.{Limits}
 use Rattle.neldermead.specs.declared.Vertex.{Vertex}
@@ -55,7 +54,9 @@ module _ (fit : Fixed) (l : Limits) (v : ℕ) (s : Simplex) (p : Position) (posi
       rw (drop-cons (drawn p) k [] some)
       (record {
         mark = refl;
-        point = rw (drawn-at p (fit .n) many k h, least, old (suc k) (omega arith) h, position .options, position .count) (ties .shrunk-of (vertexAt (s .v) 0 .x) (vertexAt (s .v) (suc k) .x) _ (fit .n));
+        point =
+            rw (drawn-at p (fit .n) many k h, least, old (suc k) (omega arith) h, position .options, position .count)
+            (ties .shrunk-of (vertexAt (s .v) 0 .x) (vertexAt (s .v) (suc k) .x) _ (fit .n));
         position = carried fit s _ p refl refl refl position;
         holds = record { some = omega arith; many = many; least = least; told = told; old = old; left = refl };
       })
@@ -99,7 +100,8 @@ module _ (fit : Fixed) (l : Limits) (allows : Allows fit l) (v : ℕ) (s : Simpl
   whole : fit .n ≤ s .at → RelatedMove fit (headedOf fit next v) (settledMove l v (shrinkOn p vertices xs))
   whole h =
       let end : s .at ≡ fit .n = omega (arith, shape .within) in
-      let all : vertex p 0 ∷ vertices ≡ loweredTo (fit .n) (suc (fit .n)) (set (s .v) (s .at) new) = told ∙ ap (λ (k : ℕ). loweredTo (fit .n) (suc k) (set (s .v) (s .at) new)) end in
+      let all : vertex p 0 ∷ vertices ≡ loweredTo (fit .n) (suc (fit .n)) (set (s .v) (s .at) new) =
+      told ∙ ap (λ (k : ℕ). loweredTo (fit .n) (suc k) (set (s .v) (s .at) new)) end in
       let none : xs ≡ [] = related .holds .left ∙ drop-of-length-le (drawn p) {i = s .at} (rw (drawn-many p (fit .n) (related .holds .many)) h) in
       rw none (headed-follows fit l allows v (shape .small) next p (vertex p 0 ∷ vertices) next-many (carried fit s next p refl refl refl (related .position)) all)
 

@@ -20,7 +20,7 @@ use Rattle.neldermead.specs.declared.Simplex.{Simplex}
 use Rattle.neldermead.specs.Algorithm.{Position, vertex, centroid, corners, tests, nowhere}
 use Rattle.neldermead.specs.Phases.{Phase, building, reflecting, expanding, outside, inside, shrinking, pointOf, Move, drawn, stepOf, buildAt, simplexSteps}
 use Rattle.neldermead.specs.Vertices.{vertexAt}
-use Rattle.neldermead.specs.Step.{building as built, reflecting as reflected, expanding as expanded, outer, inner, drawing, byTolerance, byResolution, byIterations, byFevals, notFinite, toldOf, startOf}
+use Rattle.neldermead.specs.Step.{building as buildingMark, reflecting as reflectingMark, expanding as expandingMark, outer, inner, drawing, byTolerance, byResolution, byIterations, byFevals, notFinite, toldOf, startOf}
 use Rattle.neldermead.specs.Ties.{lowered, loweredTo, ZeroFrom}
 
 -- ---- what holds of the arrays
@@ -45,9 +45,9 @@ pub record Shaped (n : ℕ) (s : Simplex) : Type 0 where
 
 -- the mark of a phase
 abbrev pub markOf : Phase → ℕ
-markOf (building p us x xs) = built
-markOf (reflecting p) = reflected
-markOf (expanding p r) = expanded
+markOf (building p us x xs) = buildingMark
+markOf (reflecting p) = reflectingMark
+markOf (expanding p r) = expandingMark
 markOf (outside p r) = outer
 markOf (inside p) = inner
 markOf (shrinking p us x xs) = drawing
