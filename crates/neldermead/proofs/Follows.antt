@@ -1,22 +1,51 @@
--- The record of the simplex follows the phases, whatever is told: `simplex-follows`. Assumes nothing.
+-- The record of the simplex follows the phases, whatever is told (`simplex-follows`), and turns go on as protocol has it (`settles-as-fits`). Assumes nothing.
 use Prim.Native.Nat.{ℕ}
 use mathlib.Core.Path.{_≡_, refl}
+use mathlib.Core.Bool.{Bool, true, false}
+use mathlib.Core.Logic.{inl}
 use mathlib.Core.List.{List, _∷_, []}
 use lib.Ieee.{Float}
 use Rattle.vector.specs.Lists.{first}
 use Rattle.vector.proofs.First.{point-laws}
 use Rattle.protocol.specs.Protocol.{readOf}
-use Rattle.protocol.specs.Rounds.{Limits}
+use Rattle.protocol.specs.declared.GradientOptions.{GradientOptions}
+use Rattle.protocol.specs.Rounds.{atHead, stops, fails, Verdict, goOn, stop, restart, Rounds, Limits, reached}
+use Rattle.protocol.specs.Fits.{mapVerdict, Positions, fits}
+use Rattle.protocol.specs.Places.{Turn, still, ends, Steps, allowedTurn, headedTurn, mapTurn, Places, fitsSteps}
 use Rattle.neldermead.specs.declared.Fixed.{Fixed}
 use Rattle.neldermead.specs.declared.Simplex.{Simplex}
-use Rattle.neldermead.specs.Algorithm.{nowhere}
-use Rattle.neldermead.specs.Phases.{Phase, building, reflecting, expanding, outside, inside, shrinking, pointOf, move, stepOf, buildAt}
+use Rattle.neldermead.specs.Algorithm.{Position, tests, nowhere, nelderMead}
+use Rattle.neldermead.specs.Phases.{Phase, building, reflecting, expanding, outside, inside, shrinking, pointOf, Move, move, stepOf, buildAt, simplexSteps}
 use Rattle.neldermead.specs.Step.{builtOf, reflectedOf, expandedOf, outsideOf, insideOf, shrinkingOf, toldOf, startOf}
-use Rattle.neldermead.specs.Follows.{Shaped, markOf, Related, RelatedMove, settledMove, Allows, SimplexFollows}
+use Rattle.neldermead.specs.Follows.{Shaped, markOf, Related, RelatedMove, allowedMove, headedMove, settledMove, SettlesAsFits, Allows, SimplexFollows}
 use Rattle.neldermead.proofs.FollowsShape.{start-shaped, told-shaped, start-zeros, told-zeros}
 use Rattle.neldermead.proofs.FollowsBuild.{built-follows}
 use Rattle.neldermead.proofs.FollowsShrink.{shrinking-follows}
 use Rattle.neldermead.proofs.FollowsRound.{reflected-follows, expanded-follows, outside-follows, inside-follows}
+
+-- ---- the turn goes on as protocol has it
+
+module _ (B : Rounds (Bool × GradientOptions)) (SB : Steps B) (l : Limits) (v : ℕ) (p : Position) where
+  abbrev inFits : Move → Turn (Places nelderMead B simplexSteps SB) (Positions nelderMead B)
+  inFits t = mapTurn inl inl t
+
+  allowed-as : (over full : Bool) → allowedTurn (fits nelderMead B) (fitsSteps nelderMead B simplexSteps SB) over full (inl p) ≡ inFits (allowedMove over full p)
+  allowed-as true full = refl
+  allowed-as false true = refl
+  allowed-as false false = refl
+
+  headed-as : (y : Verdict Position) → headedTurn (fits nelderMead B) (fitsSteps nelderMead B simplexSteps SB) l v (mapVerdict inl y) (inl p) ≡ inFits (headedMove l v y p)
+  headed-as goOn = allowed-as (reached (p .iterations) (l .iter)) (reached v (l .fevals))
+  headed-as (stop y) = refl
+  headed-as (restart m) = refl
+
+pub settles-as-fits : SettlesAsFits
+settles-as-fits B SB l v (still ph) = refl
+settles-as-fits B SB l v (ends (atHead p)) = headed-as B SB l v p (tests p)
+settles-as-fits B SB l v (ends (stops y p)) = refl
+settles-as-fits B SB l v (ends (fails k d)) = refl
+
+-- ---- the start, and an answer
 
 starts : (fit : Fixed) (x : List Float) → RelatedMove fit (startOf x) (buildAt (nowhere (fit .options) (first (fit .n) x)) (first (fit .n) x))
 unfolding startOf

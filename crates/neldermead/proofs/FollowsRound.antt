@@ -19,7 +19,7 @@ use Rattle.neldermead.specs.declared.Vertex.{Vertex}
 use Rattle.neldermead.specs.declared.Fixed.{Fixed}
 use Rattle.neldermead.specs.declared.Simplex.{Simplex}
 use Rattle.neldermead.specs.Algorithm.{Position, vertex, replaced, towards, alpha, beta, gamma}
-use Rattle.neldermead.specs.Phases.{Phase, Move, reflecting, expanding, outside, inside, pointOf, drawn, shrinkOn, reflectOn}
+use Rattle.neldermead.specs.Phases.{Phase, Move, expanding, outside, inside, pointOf, drawn, shrinkOn, reflectOn}
 use Rattle.neldermead.specs.Vertices.{noVertex, vertexAt}
 use Rattle.neldermead.specs.Step.{expanding as expandingMark, outer, inner, vertexOf, withRefl, trialOf, replacedOf, reflectedOf, expandedOf, shrinkOf, outsideOf, insideOf}
 use Rattle.neldermead.specs.Ties.{lowered, VerticesTied}
@@ -84,7 +84,8 @@ module _ (fit : Fixed) (l : Limits) (allows : Allows fit l) (v : ℕ) (positive 
         go true = replaced-by s many p position (h .round) new told seen
         go false = replaced-by s many p position (h .round) (s .refl) (lowered (fit .n) (s .refl)) refl
 
-    pub outside-follows : (r : Vertex) → InTrial fit s p r → RelatedMove fit (outsideOf fit s f v) (settledMove l v (cond (le f (r .f)) (ends (replaced p told)) (shrinkOn p [] (drawn p))))
+    pub outside-follows : (r : Vertex) → InTrial fit s p r
+        → RelatedMove fit (outsideOf fit s f v) (settledMove l v (cond (le f (r .f)) (ends (replaced p told)) (shrinkOn p [] (drawn p))))
     unfolding outsideOf
     outside-follows r h =
         decided (le f (s .refl .f)) (le f (r .f)) (ap (λ (u : Vertex). le f (u .f)) (h .trial)) _ _ (ends (replaced p told)) (shrinkOn p [] (drawn p))
@@ -131,7 +132,8 @@ module _ (fit : Fixed) (l : Limits) (allows : Allows fit l) (v : ℕ) (positive 
       pub reflected-follows : RelatedMove fit (reflectedOf fit s f v) (settledMove l v (reflectOn p told))
       unfolding reflectedOf
       reflected-follows =
-          decided _ _ (below-at 0 0 refl zero-le) _ _ (still (expanding p told)) _ (trial-related expandingMark (λ o n. alpha ⊗ beta o n) (expanding p told) refl refl refl (next-trial expandingMark _))
+          decided _ _ (below-at 0 0 refl zero-le) _ _ (still (expanding p told)) _
+          (trial-related expandingMark (λ o n. alpha ⊗ beta o n) (expanding p told) refl refl refl (next-trial expandingMark _))
           (decided _ _ (below-at (fit .n - 1) (p .n - 1) (rw (position .count)) (omega arith)) _ _ (ends (replaced p told)) _ (replaced-by next many p next-position next-round new told seen)
           (decided _ _ (below-at (fit .n) (p .n) (position .count) (le-refl (fit .n))) _ _ (still (outside p told)) (still (inside p))
           (trial-related outer (λ o n. alpha ⊗ gamma o n) (outside p told) refl refl refl (next-trial outer _))

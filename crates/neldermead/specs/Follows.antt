@@ -3,21 +3,24 @@
 use Prim.Native.Nat.{ℕ, _≤_, _<_, suc}
 use mathlib.Core.Path.{_≡_}
 use mathlib.Core.Bool.{Bool, true, false, cond}
+use mathlib.Core.Logic.{inl}
 use mathlib.Core.List.{List, [], _∷_}
 use lib.Dec.{eqb}
 use lib.ListN.{length, drop}
 use lib.Ieee.{Float}
 use Rattle.vector.specs.Lists.{first}
+use Rattle.protocol.specs.declared.GradientOptions.{GradientOptions}
 use Rattle.protocol.specs.declared.Termination.{Termination}
 use Rattle.protocol.specs.declared.Termination.the-variants.{GradientTolerance, SimplexTolerance, StepTolerance, FunctionTolerance, MaxIterations, MaxFevals, LineSearchFailed, GradientFailed, ObjectiveResolution}
 use Rattle.protocol.specs.Protocol.{readOf}
 use Rattle.protocol.specs.Claim.{limit}
-use Rattle.protocol.specs.Rounds.{atHead, stops, fails, Verdict, goOn, stop, restart, Limits, reached}
-use Rattle.protocol.specs.Places.{still, ends}
+use Rattle.protocol.specs.Rounds.{atHead, stops, fails, Verdict, goOn, stop, restart, Rounds, Limits, reached}
+use Rattle.protocol.specs.Fits.{fits}
+use Rattle.protocol.specs.Places.{still, ends, Steps, settleTurn, mapTurn, fitsSteps}
 use Rattle.neldermead.specs.declared.Vertex.{Vertex}
 use Rattle.neldermead.specs.declared.Fixed.{Fixed}
 use Rattle.neldermead.specs.declared.Simplex.{Simplex}
-use Rattle.neldermead.specs.Algorithm.{Position, vertex, centroid, corners, tests, nowhere}
+use Rattle.neldermead.specs.Algorithm.{Position, vertex, centroid, corners, tests, nowhere, nelderMead}
 use Rattle.neldermead.specs.Phases.{Phase, building, reflecting, expanding, outside, inside, shrinking, pointOf, Move, drawn, stepOf, buildAt, simplexSteps}
 use Rattle.neldermead.specs.Vertices.{vertexAt}
 use Rattle.neldermead.specs.Step.{building as buildingMark, reflecting as reflectingMark, expanding as expandingMark, outer, inner, drawing, byTolerance, byResolution, byIterations, byFevals, notFinite, toldOf, startOf}
@@ -145,7 +148,7 @@ module _ (fit : Fixed) (s : Simplex) where
   RelatedMove (ends (fails k d)) = Failed k d
   RelatedMove (ends (atHead p)) = ⊥
 
--- ---- a turn goes on through the head, after v accepted values: protocol's `settleTurn` for this fit alone
+-- ---- a turn goes on through the head, after v accepted values
 
 -- tests of max_iter and max_fevals, then the round
 abbrev pub allowedMove : Bool → Bool → Position → Move
@@ -165,6 +168,12 @@ settledMove l v (still ph) = still ph
 settledMove l v (ends (atHead p)) = headedMove l v (tests p) p
 settledMove l v (ends (stops y p)) = ends (stops y p)
 settledMove l v (ends (fails k d)) = ends (fails k d)
+
+-- it is protocol's `settleTurn` of the fit of any job, at a turn of the simplex's
+abbrev pub SettlesAsFits : Type 1
+SettlesAsFits =
+    (B : Rounds (Bool × GradientOptions)) (SB : Steps B) (l : Limits) (v : ℕ) (t : Move)
+    → settleTurn (fits nelderMead B) (fitsSteps nelderMead B simplexSteps SB) l v (mapTurn inl inl t) ≡ mapTurn inl inl (settledMove l v t)
 
 -- ---- the record follows
 
