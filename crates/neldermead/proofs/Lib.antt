@@ -8,3 +8,12 @@ pub mod CountsTexts
 pub mod Counts
 pub mod Claim
 pub mod Insertion
+pub mod TiesOrder
+pub mod TiesPoints
+pub mod Ties
+pub mod FollowsShape
+pub mod FollowsHead
+pub mod FollowsBuild
+pub mod FollowsShrink
+pub mod FollowsRound
+pub mod Follows

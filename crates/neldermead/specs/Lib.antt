@@ -5,3 +5,5 @@ pub mod Laws
 pub mod Counts
 pub mod Vertices
 pub mod Step
+pub mod Ties
+pub mod Follows
