@@ -10,8 +10,6 @@ unfolding doneOf
 done-spec =
     tie.close
     (tie.spec
+    (λ c. rw (le-leb _ _ (c .if1 .taken)))
     (λ c. search needs)
-    (λ c κs. search needs)
-    (λ c. rw (← c .before .before .reason .ensures, le-leb _ _ (c .if1 .taken)))
-    (λ c. search needs)
-    (λ c. rw (← c .before .before .reason .ensures, lt-leb _ _ (c .if1 .left))))
+    (λ c. rw (lt-leb _ _ (c .before .if1 .left))))
