@@ -8,6 +8,7 @@ use lib.Ieee.{Float, inf, neg, lt, le}
 use Rattle.float.specs.Binary64.{_⊗_, plusZero}
 use Rattle.float.specs.Values.{absOf}
 use Rattle.vector.specs.Points.{towardsOf, shrunkOf}
+use Rattle.protocol.specs.declared.SimplexOptions.{SimplexOptions}
 use Rattle.neldermead.specs.declared.Vertex.{Vertex}
 use Rattle.neldermead.specs.declared.Fixed.{Fixed}
 use Rattle.neldermead.specs.declared.Simplex.{Simplex}
@@ -97,14 +98,18 @@ reflectOf n s = trialOf n (withRound s (centroidOf (s .v) n)) reflecting alpha
 unfoldable pub reasonOf : Float → Float → ℕ
 reasonOf ftol f = cond (lt ftol (resolution (absOf f))) byResolution byTolerance
 
--- a run is done: the end for this reason, or with restarts left another run
-unfoldable pub doneOf : ℕ → Simplex → ℕ → Simplex
-doneOf restarts s why = cond (leb restarts (s .runs)) (phased s why) (rerun s)
+-- the end for this reason, or with restarts left another run
+abbrev pub rerunOrEnd : ℕ → Simplex → ℕ → Simplex
+rerunOrEnd restarts s why = cond (leb restarts (s .runs)) (phased s why) (rerun s)
+
+-- a run is done
+unfoldable pub doneOf : SimplexOptions → Simplex → Simplex
+doneOf o s = rerunOrEnd (o .restarts) s (reasonOf (o .ftol) (vertexAt (s .v) 0 .f))
 
 -- "size and spread, then max_iter, then max_fevals"
 unfoldable pub testedOf : Fixed → Simplex → ℕ → Simplex
 testedOf fit s fevals =
-    cond (convergedOf (fit .options) (s .v) (fit .n)) (doneOf (fit .options .restarts) s (reasonOf (fit .options .ftol) (vertexAt (s .v) 0 .f)))
+    cond (convergedOf (fit .options) (s .v) (fit .n)) (doneOf (fit .options) s)
     (cond (leb (fit .iter) (s .rounds)) (phased s byIterations)
     (cond (leb (fit .fevals) fevals) (phased s byFevals)
     (reflectOf (fit .n) s)))

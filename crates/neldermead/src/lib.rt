@@ -5,7 +5,7 @@ mod vertices;
 use protocol::SimplexOptions;
 ghost use mathlib.Core.Path.{_≡_};
 ghost use Prim.Native.Nat.{_≤_, _<_};
-ghost use Rattle.neldermead.specs.Step.{orderedOf, trialOf, reflectOf, reasonOf, doneOf, testedOf, headedOf, replacedOf, buildOf, settledOf, builtOf, reflectedOf, expandedOf, shrinkOf, outsideOf, insideOf, shrinkingOf, toldOf, startOf};
+ghost use Rattle.neldermead.specs.Step.{orderedOf, trialOf, reflectOf, reasonOf, rerunOrEnd, doneOf, testedOf, headedOf, replacedOf, buildOf, settledOf, builtOf, reflectedOf, expandedOf, shrinkOf, outsideOf, insideOf, shrinkingOf, toldOf, startOf};
 
 // The reflection's coefficient.
 const ALPHA: f64 = 1.0;
@@ -118,9 +118,9 @@ fn reason(ftol: f64, f: f64) -> u64
     TOLERANCE
 }
 
-// A run is done: the end for this reason, or with restarts left a new simplex about the best point.
-fn done(restarts: u64, s: Simplex, why: u64) -> Simplex
-    ensures { λ r. ⌜ r ≡ doneOf restarts s why ⌝ }
+// The end for this reason, or with restarts left a new simplex about the best point.
+fn rerun_or_end(restarts: u64, s: Simplex, why: u64) -> Simplex
+    ensures { λ r. ⌜ r ≡ rerunOrEnd restarts s why ⌝ }
 {
     let best = s.best;
     let x = best.x;
@@ -136,6 +136,15 @@ fn done(restarts: u64, s: Simplex, why: u64) -> Simplex
     q
 }
 
+// A run is done.
+fn done(o: SimplexOptions, s: Simplex) -> Simplex
+    ensures { λ r. ⌜ r ≡ doneOf o s ⌝ }
+{
+    let first = s.v[0];
+    let why = reason(o.ftol, first.f);
+    rerun_or_end(o.restarts, s, why)
+}
+
 // The tests at the head of a round: size and spread, then max_iter, then max_fevals.
 fn tested(fit: Fixed, s: Simplex, fevals: u64) -> Simplex
     requires { ⌜ fit .n ≤ 16 ⌝ }
@@ -144,11 +153,10 @@ fn tested(fit: Fixed, s: Simplex, fevals: u64) -> Simplex
     let n = fit.n;
     let o = fit.options;
     let v = s.v;
-    let first = v[0];
     let rounds = s.rounds;
     let mut q = s;
     if vertices::converged(o, v, n) {
-        return done(o.restarts, s, reason(o.ftol, first.f));
+        return done(o, s);
     }
     if fit.iter <= rounds {
         q.phase = ITERATIONS;

@@ -1,6 +1,5 @@
 -- `neldermead::done` meets its contract: each return follows the calls and tests that led to it. Assumes nothing.
 use borrow.Author.Needs.{needs}
-use borrow.Author.Tests.{le-leb, lt-leb}
 use Rattle.neldermead.specs.Step.{doneOf}
 use Rattle.neldermead.proofs.done.Statement.{statement}
 use Rattle.neldermead.proofs.done.Tie as tie
@@ -10,6 +9,7 @@ unfolding doneOf
 done-spec =
     tie.close
     (tie.spec
-    (λ c. rw (le-leb _ _ (c .if1 .taken)))
     (λ c. search needs)
-    (λ c. rw (lt-leb _ _ (c .before .if1 .left))))
+    (λ c κs. search needs)
+    (λ c κs. search needs)
+    (λ c. rw (← c .before .reason .ensures, ← c .rerun-or-end .ensures)))

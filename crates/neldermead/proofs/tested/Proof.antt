@@ -10,11 +10,9 @@ unfolding testedOf
 tested-spec =
     tie.close
     (tie.spec
-    (λ c. search needs)
     (λ c κs. search needs)
     (λ c κs. search needs)
-    (λ c κs. search needs)
-    (λ c. rw (← c .before .before .before .converged .ensures, ← c .before .reason .ensures, ← c .done .ensures, c .before .before .if1 .taken))
+    (λ c. rw (← c .before .before .converged .ensures, ← c .done .ensures, c .before .if1 .taken))
     (λ c. rw (← c .before .before .before .converged .ensures, c .before .before .if1 .left, le-leb _ _ (c .if2 .taken)))
     (λ c. rw (← c .before .before .before .before .before .converged .ensures, c .before .before .before .before .if1 .left, lt-leb _ _ (c .before .before .if2 .left), le-leb _ _ (c .if3 .taken)))
     (λ c κs. search needs)
