@@ -1,16 +1,16 @@
 -- Insertion in place, from the last vertex on, is the Algorithm's order. Assumes nothing.
 use Prim.Native.Nat.{ℕ, zero, suc, _+_, _-_, _≤_, _<_}
-use mathlib.Core.Path.{_≡_, refl, sym, ap, ap₂, _∙_}
+use mathlib.Core.Path.{_≡_, refl, sym, ap, _∙_}
 use mathlib.Core.Bool.{Bool, true, false, cond}
 use mathlib.Core.List.{List, [], _∷_, _++_, append-assoc}
 use native.Mathlib.Numerals.{add-one}
 use native.Mathlib.Omega.{arith}
-use lib.ListN.{length, take, drop, set, length-set, length-append, take-append-drop}
-use lib.Seq.{slice, slice-cons, slice-empty, length-slice, length-take-le, drop-cons, take-suc-set, take-suc, take-set-lt, append-snoc, drop-set-lt, set-split, split-at, take-at, drop-at, getD-at, drop-append-le}
+use lib.ListN.{length, take, drop, set, length-append, take-append-drop}
+use lib.Seq.{slice, slice-cons, slice-empty, length-slice, length-take-le, take-suc-set, take-suc, take-set-lt, append-snoc, drop-set-lt, set-split, split-at, take-at, drop-at, getD-at, drop-append-le}
 use Rattle.float.specs.Order.{precedesOf}
 use Rattle.neldermead.specs.declared.Vertex.{Vertex}
 use Rattle.neldermead.specs.Order.{insert, inOrder}
-use Rattle.neldermead.specs.Vertices.{noVertex, vertexAt, putOf, insertedOf, sortedOf}
+use Rattle.neldermead.specs.Vertices.{noVertex, vertexAt, putOf, insertedOf}
 
 -- ---- one vertex u: the place j is free for it
 module _ (u : Vertex) (w : List Vertex) (n : ℕ) (long : n < length w) where

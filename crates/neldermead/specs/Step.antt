@@ -98,9 +98,13 @@ reflectOf n s = trialOf n (withRound s (centroidOf (s .v) n)) reflecting alpha
 unfoldable pub reasonOf : Float → Float → ℕ
 reasonOf ftol f = cond (lt ftol (resolution (absOf f))) byResolution byTolerance
 
+-- the end for this reason, or with restarts left another run
+abbrev pub rerunOrEnd : ℕ → Simplex → ℕ → Simplex
+rerunOrEnd restarts s why = cond (leb restarts (s .runs)) (phased s why) (rerun s)
+
 -- a run is done
 unfoldable pub doneOf : SimplexOptions → Simplex → Simplex
-doneOf o s = cond (leb (o .restarts) (s .runs)) (phased s (reasonOf (o .ftol) (vertexAt (s .v) 0 .f))) (rerun s)
+doneOf o s = rerunOrEnd (o .restarts) s (reasonOf (o .ftol) (vertexAt (s .v) 0 .f))
 
 -- "size and spread, then max_iter, then max_fevals"
 unfoldable pub testedOf : Fixed → Simplex → ℕ → Simplex

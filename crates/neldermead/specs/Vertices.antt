@@ -1,11 +1,10 @@
 -- What each function on the seventeen vertices computes: the order, centroid, size and finiteness of the first n + 1, and the points of a new simplex. Definitions only.
 use Prim.Native.Nat.{ℕ, suc, _+_}
-use mathlib.Core.Bool.{Bool, true, false, _||_, cond}
+use mathlib.Core.Bool.{Bool, false, _||_, cond}
 use mathlib.Core.List.{List, [], _++_}
-use lib.Dec.{leb}
 use lib.ListN.{getD, set, take, drop, replicate}
 use lib.Seq.{slice}
-use lib.Ieee.{Float, nan, lt, le}
+use lib.Ieee.{Float, nan, le}
 use Rattle.float.specs.Binary64.{_⊖_, plusZero}
 use Rattle.float.specs.Values.{absOf, finiteOf, maxOf}
 use Rattle.vector.specs.Loops.{fold, at}

@@ -5,7 +5,7 @@ mod vertices;
 use protocol::SimplexOptions;
 ghost use mathlib.Core.Path.{_≡_};
 ghost use Prim.Native.Nat.{_≤_, _<_};
-ghost use Rattle.neldermead.specs.Step.{orderedOf, trialOf, reflectOf, reasonOf, doneOf, testedOf, headedOf, replacedOf, buildOf, settledOf, builtOf, reflectedOf, expandedOf, shrinkOf, outsideOf, insideOf, shrinkingOf, toldOf, startOf};
+ghost use Rattle.neldermead.specs.Step.{orderedOf, trialOf, reflectOf, reasonOf, rerunOrEnd, doneOf, testedOf, headedOf, replacedOf, buildOf, settledOf, builtOf, reflectedOf, expandedOf, shrinkOf, outsideOf, insideOf, shrinkingOf, toldOf, startOf};
 
 // The reflection's coefficient.
 const ALPHA: f64 = 1.0;
@@ -118,16 +118,14 @@ fn reason(ftol: f64, f: f64) -> u64
     TOLERANCE
 }
 
-// A run is done: the end, or with restarts left a new simplex about the best point.
-fn done(o: SimplexOptions, s: Simplex) -> Simplex
-    ensures { λ r. ⌜ r ≡ doneOf o s ⌝ }
+// The end for this reason, or with restarts left a new simplex about the best point.
+fn rerun_or_end(restarts: u64, s: Simplex, why: u64) -> Simplex
+    ensures { λ r. ⌜ r ≡ rerunOrEnd restarts s why ⌝ }
 {
-    let first = s.v[0];
     let best = s.best;
     let x = best.x;
-    let why = reason(o.ftol, first.f);
     let mut q = s;
-    if o.restarts <= s.runs {
+    if restarts <= s.runs {
         q.phase = why;
         return q;
     }
@@ -138,6 +136,15 @@ fn done(o: SimplexOptions, s: Simplex) -> Simplex
     q
 }
 
+// A run is done.
+fn done(o: SimplexOptions, s: Simplex) -> Simplex
+    ensures { λ r. ⌜ r ≡ doneOf o s ⌝ }
+{
+    let first = s.v[0];
+    let why = reason(o.ftol, first.f);
+    rerun_or_end(o.restarts, s, why)
+}
+
 // The tests at the head of a round: size and spread, then max_iter, then max_fevals.
 fn tested(fit: Fixed, s: Simplex, fevals: u64) -> Simplex
     requires { ⌜ fit .n ≤ 16 ⌝ }
@@ -146,11 +153,12 @@ fn tested(fit: Fixed, s: Simplex, fevals: u64) -> Simplex
     let n = fit.n;
     let o = fit.options;
     let v = s.v;
+    let rounds = s.rounds;
     let mut q = s;
     if vertices::converged(o, v, n) {
         return done(o, s);
     }
-    if fit.iter <= s.rounds {
+    if fit.iter <= rounds {
         q.phase = ITERATIONS;
         return q;
     }
@@ -309,8 +317,8 @@ fn inside(fit: Fixed, s: Simplex, f: f64, fevals: u64) -> Simplex
 {
     let n = fit.n;
     let x = s.x;
-    let worst = s.v[n];
-    if f < worst.f {
+    let last = s.v[n];
+    if f < last.f {
         return replaced(fit, s, Vertex { x, f }, fevals);
     }
     shrink(fit, s, 1)
@@ -323,12 +331,12 @@ fn shrinking(fit: Fixed, s: Simplex, f: f64, fevals: u64) -> Simplex
     ensures { λ r. ⌜ r ≡ shrinkingOf fit s f fevals ⌝ }
 {
     let n = fit.n;
-    let i = s.at;
+    let j = s.at;
     let x = s.x;
     let mut q = s;
-    q.v[i] = Vertex { x, f };
-    if i < n {
-        return shrink(fit, q, i + 1);
+    q.v[j] = Vertex { x, f };
+    if j < n {
+        return shrink(fit, q, j + 1);
     }
     headed(fit, q, fevals)
 }

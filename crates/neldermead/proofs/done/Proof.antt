@@ -1,6 +1,5 @@
 -- `neldermead::done` meets its contract: each return follows the calls and tests that led to it. Assumes nothing.
 use borrow.Author.Needs.{needs}
-use borrow.Author.Tests.{le-leb, lt-leb}
 use Rattle.neldermead.specs.Step.{doneOf}
 use Rattle.neldermead.proofs.done.Statement.{statement}
 use Rattle.neldermead.proofs.done.Tie as tie
@@ -12,6 +11,5 @@ done-spec =
     (tie.spec
     (λ c. search needs)
     (λ c κs. search needs)
-    (λ c. rw (← c .before .before .reason .ensures, le-leb _ _ (c .if1 .taken)))
-    (λ c. search needs)
-    (λ c. rw (← c .before .before .reason .ensures, lt-leb _ _ (c .if1 .left))))
+    (λ c κs. search needs)
+    (λ c. rw (← c .before .reason .ensures, ← c .rerun-or-end .ensures)))
