@@ -6,11 +6,13 @@ use mathlib.Core.Bool.{Bool, true, false, _||_}
 use mathlib.Core.List.{List}
 use lib.Dec.{T, eqb}
 use lib.Ieee.{Float}
+use Rattle.protocol.specs.declared.SimplexOptions.{SimplexOptions}
+use Rattle.protocol.specs.declared.Allowances.{Allowances}
 use Rattle.protocol.specs.Protocol.{Reply, ask, ended, refused}
 use Rattle.optim.specs.declared.Record.{Record}
 use Rattle.optim.specs.Record.{validOf}
 use Rattle.optim.specs.Answer.{standingOf, repeatsOf, answerOf}
-use Rattle.optim.specs.Start.{differencesOf}
+use Rattle.optim.specs.Start.{differencesOf, simplexOf}
 
 -- a question, an outcome, or one of 01's refusals 1 to 20
 abbrev pub InScope : Reply → Type 0
@@ -32,6 +34,7 @@ pub record Answers : Type 0 where
   pub repeat-keeps : (r : Record) (number kind : ℕ) (words : List Float) → validOf r ≡ true → repeatsOf (r .accepted) number ≡ true
       → (answerOf r number kind words .0 ≡ standingOf r .0) × (answerOf r number kind words .1 ≡ r)
 
--- of every list that is lent to a start
+-- of every list and all options that are lent to a start
 pub record Starts : Type 0 where
-  pub in-scope : (x : List Float) → InScope (differencesOf x .0)
+  pub differences-in-scope : (x : List Float) → InScope (differencesOf x .0)
+  pub simplex-in-scope : (x : List Float) (o : SimplexOptions) (a : Allowances) → InScope (simplexOf x o a .0)
