@@ -1,4 +1,4 @@
--- An answer to a record that stands for a place's gets the place's reply, and the records that come back are tied again: `answered`. Assumes nothing.
+-- An answer to a record that stands for a place's gets the place's reply, and the records that come back are tied again: `answers`. Assumes nothing.
 use Prim.Native.Nat.{ℕ, suc, _+_, _≤_}
 use native.Mathlib.Numerals.{add-one}
 use native.Mathlib.Omega.{arith}
@@ -10,22 +10,41 @@ use borrow.Author.Tests.{lt-ltb, le-ltb, eq-eqb}
 use lib.Dec.{eqb, ltb}
 use lib.ListN.{length, getD}
 use lib.Ieee.{Float, nan}
-use Rattle.protocol.specs.Protocol.{Answer, Reply, refused}
+use Rattle.protocol.specs.Protocol.{Answer, Reply, refused, readOf}
 use Rattle.protocol.specs.Rounds.{Limits}
-use Rattle.protocol.specs.Places.{still, Held, at, closed, Placed, placed, putTurn, settleTurn, mapTurn, standingAt, acceptAt, freshAt, answerAt, Turns}
+use Rattle.protocol.specs.Places.{still, Held, at, closed, Placed, placed, putTurn, standingAt, acceptAt, freshAt, answerAt, Turns}
+use Rattle.neldermead.specs.Laws.{gradientless}
 use Rattle.neldermead.specs.Phases.{Phase, stepOf}
 use Rattle.neldermead.specs.Step.{toldOf}
 use Rattle.neldermead.specs.Follows.{Related, RelatedMove, settledMove, Allows}
 use Rattle.neldermead.proofs.Follows.{simplex-follows, settles-as-fits}
-use Rattle.protocol.specs.Protocol.{readOf}
 use Rattle.optim.specs.declared.Record.{Record}
-use Rattle.optim.specs.Record.{simplexMark, lastAsking, fixedOf, validOf}
+use Rattle.optim.specs.Record.{simplexMark, most, lastAsking, fixedOf, validOf}
 use Rattle.optim.specs.Answer.{overOf, standingOf, repeatsOf, acceptedOf, steppedOf, takenOf, suitsOf, heardOf, answerOf}
 use Rattle.optim.specs.Engine.{answerCode}
 use Rattle.optim.proofs.Replies.{stands-keeps}
 use Rattle.optim.proofs.EngineBounded.{told-within, step-keeps}
 use Rattle.optim.proofs.EngineRelated.{noPlaces, allFits, allSteps, Place, putMove, Sound, Left, HeldBy, Relates, bound-low, mark-asks, valid, put-related}
-use Rattle.neldermead.specs.Laws.{gradientless}
+
+-- ---- tests of an answer
+
+-- a repeat carries the number last accepted
+repeats-as : (k n : ℕ) → repeatsOf k n ≡ not (eqb k 0) && eqb n k
+unfolding repeatsOf
+repeats-as k n = go (eqb k 0)
+  where
+    go : (b : Bool) → cond b false (eqb n k) ≡ not b && eqb n k
+    go true = refl
+    go false = refl
+
+-- the letter and the length
+suits-as : (k n : ℕ) → not (suitsOf k n) ≡ not (eqb k 86 && eqb n 1)
+unfolding suitsOf
+suits-as k n = go (eqb k 86)
+  where
+    go : (b : Bool) → not (cond (not b) false (eqb n 1)) ≡ not (b && eqb n 1)
+    go true = refl
+    go false = refl
 
 -- ---- an answer that is accepted
 
@@ -42,7 +61,7 @@ module _ (r : Record) (l : Limits) (A : Allows (fixedOf r) l) (x : List Float) (
   abbrev followed : Held Place → Placed Place
   followed h = placed allFits allSteps l (r .accepted) (r .accepted) 0 h
 
-  next-sound : (v : Float) → r .accepted + 1 ≤ 40000000000 → Sound (next r v)
+  next-sound : (v : Float) → r .accepted + 1 ≤ most → Sound (next r v)
   next-sound v room =
       record {
         job = S .job;
@@ -61,7 +80,7 @@ module _ (r : Record) (l : Limits) (A : Allows (fixedOf r) l) (x : List Float) (
     abbrev v : Float
     v = getD (a .words) 0 nan
 
-    room : r .accepted + 1 ≤ 40000000000
+    room : r .accepted + 1 ≤ most
     room =
         omega (
           arith,
@@ -101,3 +120,80 @@ module _ (r : Record) (l : Limits) (A : Allows (fixedOf r) l) (x : List Float) (
   unmoved : (h : Held Place) → HeldBy r l A x h → (y : Reply) → Same h (y, r) (y, followed h)
   unmoved h held y =
       record { replies = refl; relates = record { limits = l; held = h; x0 = x; long = long; allows = A; sound = S; holds = held; is = refl }; stays = λ e. refl }
+
+  -- the fit has ended or a question stands open
+  over-as : (b : Bool) → ltb lastAsking (r .simplex .phase) ≡ b → overOf r ≡ b
+  unfolding overOf
+  over-as b e = rw (eq-eqb (r .job) simplexMark (S .job), e)
+
+  standing-as : (h : Held Place) → HeldBy r l A x h → standingOf r .0 ≡ standingAt allFits allSteps (r .accepted) h
+  standing-as (at (inl ph)) h = put-related r S l A x long (still ph) (h .0) (h .1) .0
+  standing-as (at (inr s)) h = absurd h
+  standing-as (closed y) h = sym (h .shown)
+
+  repeated : (h : Held Place) → HeldBy r l A x h → Same h (standingOf r) (standingAt allFits allSteps (r .accepted) h, followed h)
+  repeated h held =
+      let u = unmoved h held (standingOf r .0) in
+      record { replies = standing-as h held; relates = subst (λ (q : Record). Relates q (followed h)) (sym (stands-keeps r)) (u .relates); stays = λ e. stands-keeps r }
+
+  -- an accepted answer raises the number last accepted
+  taken : (ph : Phase) (held : HeldBy r l A x (at (inl ph))) (a : Answer)
+      → Same (at (inl ph)) (takenOf r (getD (a .words) 0 nan)) (acceptAt allFits allSteps (followed (at (inl ph))) (inl ph) a)
+  unfolding takenOf
+  taken ph held a =
+      rw (stepped r (v ph (held .0) (held .1) a) (S .job), accepted-as ph (held .0) (held .1) a)
+      (record {
+        replies = t .0;
+        relates = related;
+        stays = λ e. absurd (clash (ap (λ (s : Placed Place). s .last) (related .is ∙ e)));
+      })
+    where
+      q : Record
+      q = next r (getD (a .words) 0 nan)
+
+      t : (standingOf q .0 ≡ putMove l (r .accepted + 1) (settledMove l (r .accepted + 1) (stepOf ph (a .words))) .0)
+          × Relates q (putMove l (r .accepted + 1) (settledMove l (r .accepted + 1) (stepOf ph (a .words))) .1)
+      t = taken-as ph (held .0) (held .1) a
+
+      related : Relates (standingOf q .1) (putMove l (r .accepted + 1) (settledMove l (r .accepted + 1) (stepOf ph (a .words))) .1)
+      related = subst (λ (z : Record). Relates z (putMove l (r .accepted + 1) (settledMove l (r .accepted + 1) (stepOf ph (a .words))) .1)) (sym (stands-keeps q)) (t .1)
+
+      clash : standingOf q .1 .accepted ≡ r .accepted → ⊥
+      clash e = omega (arith, ap (λ (z : Record). z .accepted) (stands-keeps q))
+
+  -- not a repeat: 15, 16, 17, or accepted
+  fresh : (h : Held Place) → HeldBy r l A x h → (a : Answer)
+      → Same h
+      (cond (overOf r) (refused 15 0, r)
+      (cond (not (eqb (a .number) (r .accepted + 1))) (refused 16 0, r)
+      (cond (not (suitsOf (a .kind) (length (a .words)))) (refused 17 0, r) (takenOf r (getD (a .words) 0 nan)))))
+      (freshAt allFits allSteps (followed h) h a)
+  fresh (closed y) held a = rw (over-as true (lt-ltb lastAsking (r .simplex .phase) (held .past))) (unmoved (closed y) held (refused 15 0))
+  fresh (at (inr s)) held a = absurd held
+  fresh (at (inl ph)) held a =
+      rw (over-as false (le-ltb lastAsking (r .simplex .phase) (omega (arith, held .0 .mark, mark-asks ph))))
+      (both (at (inl ph)) (not (eqb (a .number) (r .accepted + 1))) (not (eqb (a .number) (suc (r .accepted)))) _ _ _ _ (rw (add-one (r .accepted))) (unmoved (at (inl ph)) held (refused 16 0))
+      (both (at (inl ph)) (not (suitsOf (a .kind) (length (a .words)))) _ _ _ _ _ (suits-as (a .kind) (length (a .words))) (unmoved (at (inl ph)) held (refused 17 0))
+      (taken ph held a)))
+
+  answered : (h : Held Place) → HeldBy r l A x h → (a : Answer) → Same h (answerCode r a) (answerAt allFits allSteps (followed h) a)
+  unfolding answerOf heardOf
+  answered h held a =
+      rw (valid r S l A x h held)
+      (both h (repeatsOf (r .accepted) (a .number)) _ _ _ _ _ (repeats-as (r .accepted) (a .number)) (repeated h held) (fresh h held a))
+
+-- ---- of any two records that are tied
+
+pub valid-of : (r : Record) (s : Placed Place) → Relates r s → validOf r ≡ true
+valid-of r s R = valid r (R .sound) (R .limits) (R .allows) (R .x0) (R .held) (R .holds)
+
+module _ (r : Record) (s : Placed Place) (a : Answer) (R : Relates r s) where
+  abbrev Replied : Placed Place → Type 0
+  Replied z =
+      (answerCode r a .0 ≡ answerAt allFits allSteps z a .0) × Relates (answerCode r a .1) (answerAt allFits allSteps z a .1)
+      × (answerAt allFits allSteps z a .1 ≡ z → answerCode r a .1 ≡ r)
+
+  pub answers : Replied s
+  answers =
+      let t = answered r (R .limits) (R .allows) (R .x0) (R .long) (R .sound) (R .held) (R .holds) a in
+      subst Replied (R .is) (t .replies, t .relates, t .stays)

@@ -1,5 +1,5 @@
 -- Whatever is told, rounds stay within max_iter and runs within the restarts (`told-within`), and texts within the bound on questions (`step-keeps`, `opening-keeps`). Assumes nothing.
-use Prim.Native.Nat.{ℕ, _+_, _*_, _-_, _≤_, zero-le}
+use Prim.Native.Nat.{ℕ, _+_, _-_, _≤_, zero-le}
 use native.Mathlib.Omega.{arith}
 use mathlib.Core.Path.{_≡_, refl, sym, subst}
 use mathlib.Core.Bool.{Bool, true, false, cond}
@@ -10,7 +10,7 @@ use lib.Ieee.{Float, lt, le}
 use Rattle.protocol.specs.declared.Kind.the-variants.{Value}
 use Rattle.protocol.specs.declared.SimplexOptions.{SimplexOptions}
 use Rattle.protocol.specs.Claim.{limit}
-use Rattle.protocol.specs.Ask.{Ask, finish}
+use Rattle.protocol.specs.Ask.{Ask}
 use Rattle.protocol.specs.Rounds.{Ending, atHead, stops, fails, Verdict, goOn, stop, restart, Limits, reached}
 use Rattle.protocol.specs.Bounds.{Keeps, BoundLaws}
 use Rattle.protocol.specs.Places.{still, ends, text}

@@ -4,12 +4,12 @@ use Prim.Native.Nat.{ℕ, suc, _+_, _*_, _≤_, _<_}
 use native.Mathlib.Nat.{le-trans, mul-le-mul-left, mul-le-mul-right}
 use native.Mathlib.Numerals.{add-one}
 use native.Mathlib.Omega.{arith}
-use mathlib.Core.Path.{_≡_, refl, sym, _∙_, ap}
+use mathlib.Core.Path.{_≡_, refl, sym, ap}
 use mathlib.Core.Bool.{Bool, true, false, cond}
 use mathlib.Core.Logic.{inl, inr}
 use mathlib.Core.List.{List}
 use borrow.Author.Tests.{le-ltb, le-leb, lt-leb, ne-eqb, eq-eqb}
-use lib.Dec.{leb, ltb, eqb}
+use lib.Dec.{ltb, eqb}
 use lib.ListN.{length}
 use lib.Ieee.{Float}
 use Rattle.protocol.specs.declared.SimplexOptions.{SimplexOptions}
@@ -18,10 +18,11 @@ use Rattle.protocol.specs.declared.Termination.the-variants.{GradientTolerance,
 use Rattle.protocol.specs.Protocol.{converges, Result, fitted, Reply, ask, ended, refused, Job}
 use Rattle.protocol.specs.Rounds.{atHead, stops, fails, Rounds, Limits, resultAt, questionAt}
 use Rattle.protocol.specs.Fits.{fits}
-use Rattle.protocol.specs.Places.{Turn, still, ends, Steps, StepsLaws, Held, at, closed, Placed, placed, putTurn, mapTurn, Places, fitsSteps}
+use Rattle.protocol.specs.Places.{still, ends, Steps, StepsLaws, Held, at, closed, Placed, placed, putTurn, mapTurn, Places, fitsSteps}
 use Rattle.neldermead.specs.Algorithm.{Position, nelderMead}
 use Rattle.neldermead.specs.Laws.{gradientless}
 use Rattle.neldermead.specs.Phases.{Phase, building, reflecting, expanding, outside, inside, shrinking, pointOf, Move, simplexSteps}
+use Rattle.neldermead.specs.Step.{byTolerance, byResolution, byIterations, byFevals as usedUp, notFinite}
 use Rattle.neldermead.specs.Counts.{byFevals}
 use Rattle.neldermead.specs.Ties.{lowered, ZeroFrom}
 use Rattle.neldermead.specs.Follows.{EveryPoint, Shaped, markOf, Related, Stopped, RelatedMove, Allows}
@@ -126,6 +127,23 @@ passes true x e h = absurd (clash e)
     clash i = let z : _≡_ {A = ℕ} 0 1 = cc in omega arith
 passes false x e h = h
 
+-- the marks of phases are those with an open question
+mark-low : (ph : Phase) → 1 ≤ markOf ph
+mark-low (building p us x xs) = omega arith
+mark-low (reflecting p) = omega arith
+mark-low (expanding p w) = omega arith
+mark-low (outside p w) = omega arith
+mark-low (inside p) = omega arith
+mark-low (shrinking p us x xs) = omega arith
+
+pub mark-asks : (ph : Phase) → markOf ph ≤ lastAsking
+mark-asks (building p us x xs) = omega arith
+mark-asks (reflecting p) = omega arith
+mark-asks (expanding p w) = omega arith
+mark-asks (outside p w) = omega arith
+mark-asks (inside p) = omega arith
+mark-asks (shrinking p us x xs) = omega arith
+
 module _ (r : Record) (S : Sound r) where
   in-range : 1 ≤ r .simplex .phase → r .simplex .phase ≤ lastPhase → validOf r ≡ true
   unfolding validOf validSimplexOf
@@ -148,22 +166,6 @@ module _ (r : Record) (S : Sound r) where
       above : (k : ℕ) → 1 ≤ k → k ≡ 0 → ⊥
       above k l e = omega arith
 
-  mark-low : (ph : Phase) → 1 ≤ markOf ph
-  mark-low (building p us x xs) = omega arith
-  mark-low (reflecting p) = omega arith
-  mark-low (expanding p w) = omega arith
-  mark-low (outside p w) = omega arith
-  mark-low (inside p) = omega arith
-  mark-low (shrinking p us x xs) = omega arith
-
-  pub mark-asks : (ph : Phase) → markOf ph ≤ lastAsking
-  mark-asks (building p us x xs) = omega arith
-  mark-asks (reflecting p) = omega arith
-  mark-asks (expanding p w) = omega arith
-  mark-asks (outside p w) = omega arith
-  mark-asks (inside p) = omega arith
-  mark-asks (shrinking p us x xs) = omega arith
-
   pub valid : (l : Limits) (A : Allows (fixedOf r) l) (x : List Float) (h : Held Place) → HeldBy r l A x h → validOf r ≡ true
   valid l A x (at (inl ph)) h = in-range (rw (h .0 .mark) (mark-low ph)) (omega (arith, h .0 .mark, mark-asks ph))
   valid l A x (at (inr s)) h = absurd h
@@ -176,26 +178,36 @@ module _ (r : Record) (S : Sound r) where
   asks-as ph h =
       rw (eq-eqb (r .job) simplexMark (S .job), le-leb (r .simplex .phase) lastAsking (rw (h .mark) (mark-asks ph)), add-one (r .accepted), h .point)
 
-  fails-as : r .simplex .phase ≡ 11 → standingOf r .0 ≡ refused 20 0
+  fails-as : r .simplex .phase ≡ notFinite → standingOf r .0 ≡ refused 20 0
   unfolding standingOf standingSimplexOf
   fails-as e = rw (eq-eqb (r .job) simplexMark (S .job), e)
 
-  ends-as : (k : ℕ) → r .simplex .phase ≡ k → leb k lastAsking ≡ false → eqb k 11 ≡ false → standingOf r .0 ≡ ended (fitted (resultOf r))
-  unfolding standingOf standingSimplexOf
-  ends-as k e a b = rw (eq-eqb (r .job) simplexMark (S .job), e, a, b)
-
-  result-as : (k : ℕ) (y : Termination) (p : Position) → r .simplex .phase ≡ k → terminationOf k ≡ y → eqb k 7 ≡ converges y
+  -- the result of a fit that has stopped is the one at the position
+  result-as : (k : ℕ) (y : Termination) (p : Position) → r .simplex .phase ≡ k → terminationOf k ≡ y → eqb k byTolerance ≡ converges y
       → p .iterations ≡ r .simplex .rounds → p .best ≡ lowered (r .n) (r .simplex .best) → resultOf r ≡ resultAt allFits y (r .accepted) 0 (inl p)
   unfolding resultOf
   result-as k y p e t c i b = rw (e, t, c, S .values, S .gradients, i, b)
 
-  stops-as : (y : Termination) (p : Position) → Stopped (fixedOf r) (r .simplex) y p
-      → (standingOf r .0 ≡ ended (fitted (resultAt allFits y (r .accepted) 0 (inl p)))) × (lastAsking < r .simplex .phase) × (r .simplex .phase ≤ lastPhase)
+  -- it shows this result, and no question
+  abbrev Shows : Termination → Position → Type 0
+  Shows y p = (standingOf r .0 ≡ ended (fitted (resultAt allFits y (r .accepted) 0 (inl p)))) × (lastAsking < r .simplex .phase) × (r .simplex .phase ≤ lastPhase)
+
+  shows : (k : ℕ) (y : Termination) (p : Position) → r .simplex .phase ≡ k → lastAsking < k → k < notFinite → terminationOf k ≡ y → eqb k byTolerance ≡ converges y
+      → p .iterations ≡ r .simplex .rounds → p .best ≡ lowered (r .n) (r .simplex .best) → Shows y p
+  unfolding standingOf standingSimplexOf
+  shows k y p e past known t c i b = (
+    rw (eq-eqb (r .job) simplexMark (S .job), lt-leb (r .simplex .phase) lastAsking (rw e past), ne-eqb (r .simplex .phase) notFinite (λ m. omega arith))
+        (ap (λ (z : Result). ended (fitted z)) (result-as k y p e t c i b)),
+    rw e past,
+    omega arith,
+  )
+
+  stops-as : (y : Termination) (p : Position) → Stopped (fixedOf r) (r .simplex) y p → Shows y p
   unfolding terminationOf
-  stops-as SimplexTolerance p h = (ends-as 7 (h .mark) refl refl ∙ ap (λ (z : Result). ended (fitted z)) (result-as 7 _ p (h .mark) refl refl (h .iterations) (h .best)), rw (h .mark) (omega arith), rw (h .mark) (omega arith))
-  stops-as ObjectiveResolution p h = (ends-as 8 (h .mark) refl refl ∙ ap (λ (z : Result). ended (fitted z)) (result-as 8 _ p (h .mark) refl refl (h .iterations) (h .best)), rw (h .mark) (omega arith), rw (h .mark) (omega arith))
-  stops-as MaxIterations p h = (ends-as 9 (h .mark) refl refl ∙ ap (λ (z : Result). ended (fitted z)) (result-as 9 _ p (h .mark) refl refl (h .iterations) (h .best)), rw (h .mark) (omega arith), rw (h .mark) (omega arith))
-  stops-as MaxFevals p h = (ends-as 10 (h .mark) refl refl ∙ ap (λ (z : Result). ended (fitted z)) (result-as 10 _ p (h .mark) refl refl (h .iterations) (h .best)), rw (h .mark) (omega arith), rw (h .mark) (omega arith))
+  stops-as SimplexTolerance p h = shows byTolerance _ p (h .mark) (omega arith) (omega arith) refl refl (h .iterations) (h .best)
+  stops-as ObjectiveResolution p h = shows byResolution _ p (h .mark) (omega arith) (omega arith) refl refl (h .iterations) (h .best)
+  stops-as MaxIterations p h = shows byIterations _ p (h .mark) (omega arith) (omega arith) refl refl (h .iterations) (h .best)
+  stops-as MaxFevals p h = shows usedUp _ p (h .mark) (omega arith) (omega arith) refl refl (h .iterations) (h .best)
   stops-as GradientTolerance p h = absurd (h .mark)
   stops-as StepTolerance p h = absurd (h .mark)
   stops-as FunctionTolerance p h = absurd (h .mark)
