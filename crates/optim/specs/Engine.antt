@@ -57,8 +57,8 @@ pub record CodeAtMost : Type 0 where
 
 -- no record made by a start and answers ever meets refusal 1
 abbrev pub InRange : Type 0
-InRange = (f : Fit) (l : List Answer) → Started code f → GivenF64s l → validOf (run code f l .recordNow) ≡ true
+InRange = (f : Fit) (l : List Answer) → Started code f → validOf (run code f l .recordNow) ≡ true
 
 -- "Along every list all coordinates past n of every vertex are +0.0", and of every other point of the simplex part
 abbrev pub Zeros : Type 0
-Zeros = (f : Fit) (l : List Answer) → Started code f → GivenF64s l → EveryPoint (ZeroFrom (run code f l .recordNow .n)) (run code f l .recordNow .simplex)
+Zeros = (f : Fit) (l : List Answer) → Started code f → EveryPoint (ZeroFrom (run code f l .recordNow .n)) (run code f l .recordNow .simplex)
