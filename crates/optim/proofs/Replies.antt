@@ -44,7 +44,7 @@ stands r q =
     (either (Fine r) (eqb (q .diff .at) (q .n)) _ _ (tt, λ t. absurd t) (tt, λ t. absurd t))
 
 -- it comes with its record
-stands-keeps : (r : Record) → standingOf r .1 ≡ r
+pub stands-keeps : (r : Record) → standingOf r .1 ≡ r
 unfolding standingOf standingSimplexOf standingDifferencesOf
 stands-keeps r =
     either (λ a. a .1 ≡ r) (eqb (r .job) simplexMark) _ _

@@ -3,3 +3,4 @@ pub mod Answer
 pub mod Start
 pub mod Replies
 pub mod Follows
+pub mod Engine
