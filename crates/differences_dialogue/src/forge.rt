@@ -81,12 +81,18 @@ pub fn record(r: Record, field: u64, index: u64, word: u64) -> Record {
     if field == 2 {
         n = word as usize;
     }
+    let limits = r.limits;
+    let options = r.options;
+    let simplex = r.simplex;
     let near = position(r.diff, field, word);
     Record {
         accepted,
         job,
         n,
         counts: counts(r.counts, field, word),
+        limits,
+        options,
         diff: lists(near, field, index, word),
+        simplex,
     }
 }

@@ -3,9 +3,9 @@
 // how many differ, and the number of the first that does (0 for none). A row of another form differs.
 mod forge;
 mod line;
+mod same;
 
 use line::Line;
-use objective::Differences;
 use optim::Answered;
 use optim::Record;
 use protocol::Kind;
@@ -88,59 +88,6 @@ fn list_agrees(v: [f64; 16], m: usize, l: Line, from: usize) -> bool {
     true
 }
 
-fn same_list(a: [f64; 16], b: [f64; 16]) -> bool {
-    let mut i: usize = 0;
-    while i < 16 {
-        if rows::bits_of(a[i]) != rows::bits_of(b[i]) {
-            return false;
-        }
-        i += 1;
-    }
-    true
-}
-
-fn same_differences(a: Differences, b: Differences) -> bool {
-    if a.at != b.at {
-        return false;
-    }
-    if a.forward != b.forward {
-        return false;
-    }
-    if rows::bits_of(a.value) != rows::bits_of(b.value) {
-        return false;
-    }
-    let x = a.x;
-    let g = a.g;
-    let y = b.x;
-    let h = b.g;
-    if same_list(x, y) {
-        return same_list(g, h);
-    }
-    false
-}
-
-// Whether two records have the same bits, one pattern counting for every NaN.
-fn same_record(a: Record, b: Record) -> bool {
-    let counts = a.counts;
-    let others = b.counts;
-    if a.accepted != b.accepted {
-        return false;
-    }
-    if a.job != b.job {
-        return false;
-    }
-    if a.n != b.n {
-        return false;
-    }
-    if counts.fevals != others.fevals {
-        return false;
-    }
-    if counts.gevals != others.gevals {
-        return false;
-    }
-    same_differences(a.diff, b.diff)
-}
-
 // Whether what the line has behind `at` is the reply's form, its numbers and its list.
 fn said_agrees(r: Reply, x: [f64; 16], g: [f64; 16], l: Line, at: usize) -> bool {
     if line::word(l, at, 0) != r.form {
@@ -183,7 +130,7 @@ fn record_agrees(before: Record, after: Record, l: Line, at: usize) -> bool {
         return true;
     }
     if unchanged == 1 {
-        return same_record(before, after);
+        return same::record(before, after);
     }
     false
 }
