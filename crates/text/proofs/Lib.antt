@@ -1,0 +1,5 @@
+pub mod Fits
+pub mod Sums
+pub mod Pieces
+pub mod Whole
+pub mod Words
