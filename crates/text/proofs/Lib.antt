@@ -3,3 +3,4 @@ pub mod Sums
 pub mod Pieces
 pub mod Whole
 pub mod Words
+pub mod LineLaws

@@ -2,13 +2,13 @@
 // line may have any length; what a field must be is decided when it ends, by the line's form and the
 // field's place.
 mod fields;
-mod lines;
+mod forms;
 
-pub use lines::answer_line;
-pub use lines::first_line;
-pub use lines::gradient_line;
-pub use lines::point_line;
-pub use lines::simplex_line;
+pub use forms::answer_line;
+pub use forms::first_line;
+pub use forms::gradient_line;
+pub use forms::point_line;
+pub use forms::simplex_line;
 use protocol::Allowances;
 use protocol::GradientOptions;
 use protocol::SimplexOptions;

@@ -1,8 +1,8 @@
--- `text::lines::simplex_line` meets its contract: each return follows the calls and tests that led to it. Assumes nothing.
+-- `text::forms::simplex_line` meets its contract: each return follows the calls and tests that led to it. Assumes nothing.
 use borrow.Author.Needs.{needs}
 use Rattle.text.specs.Lines.{simplexLineOf, wordsOf}
-use Rattle.text.proofs.lines.simplex_line.Statement.{statement}
-use Rattle.text.proofs.lines.simplex_line.Tie as tie
+use Rattle.text.proofs.forms.simplex_line.Statement.{statement}
+use Rattle.text.proofs.forms.simplex_line.Tie as tie
 
 pub simplex-line-spec : {M : Type 1} → statement M
 unfolding simplexLineOf wordsOf

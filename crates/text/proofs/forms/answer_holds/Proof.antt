@@ -1,8 +1,8 @@
--- `text::lines::answer_holds` meets its contract: each return follows the calls and tests that led to it. Assumes nothing.
+-- `text::forms::answer_holds` meets its contract: each return follows the calls and tests that led to it. Assumes nothing.
 use borrow.Author.Tests.{le-ltb, lt-ltb}
 use Rattle.text.specs.Lines.{answerHoldsOf}
-use Rattle.text.proofs.lines.answer_holds.Statement.{statement}
-use Rattle.text.proofs.lines.answer_holds.Tie as tie
+use Rattle.text.proofs.forms.answer_holds.Statement.{statement}
+use Rattle.text.proofs.forms.answer_holds.Tie as tie
 
 pub answer-holds-spec : {M : Type 1} → statement M
 unfolding answerHoldsOf

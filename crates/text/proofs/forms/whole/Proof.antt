@@ -1,8 +1,8 @@
--- `text::lines::whole` meets its contract: each return follows the calls and tests that led to it. Assumes nothing.
+-- `text::forms::whole` meets its contract: each return follows the calls and tests that led to it. Assumes nothing.
 use borrow.Author.Tests.{eq-eqb, ne-eqb}
 use Rattle.text.specs.Lines.{wholeOf}
-use Rattle.text.proofs.lines.whole.Statement.{statement}
-use Rattle.text.proofs.lines.whole.Tie as tie
+use Rattle.text.proofs.forms.whole.Statement.{statement}
+use Rattle.text.proofs.forms.whole.Tie as tie
 
 pub whole-spec : {M : Type 1} → statement M
 unfolding wholeOf

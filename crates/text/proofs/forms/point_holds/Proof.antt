@@ -1,9 +1,9 @@
--- `text::lines::point_holds` meets its contract: each return follows the calls and tests that led to it. Assumes nothing.
+-- `text::forms::point_holds` meets its contract: each return follows the calls and tests that led to it. Assumes nothing.
 use borrow.Author.Needs.{needs}
 use borrow.Author.Tests.{eq-eqb, ne-eqb}
 use Rattle.text.specs.Lines.{pointHoldsOf}
-use Rattle.text.proofs.lines.point_holds.Statement.{statement}
-use Rattle.text.proofs.lines.point_holds.Tie as tie
+use Rattle.text.proofs.forms.point_holds.Statement.{statement}
+use Rattle.text.proofs.forms.point_holds.Tie as tie
 
 pub point-holds-spec : {M : Type 1} → statement M
 unfolding pointHoldsOf

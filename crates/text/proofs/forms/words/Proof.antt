@@ -1,4 +1,4 @@
--- `text::lines::words` meets its contract: after i turns the first i of seventeen places are filled. Assumes nothing.
+-- `text::forms::words` meets its contract: after i turns the first i of seventeen places are filled. Assumes nothing.
 use borrow.Author.Needs.{needs}
 use mathlib.Core.Path.{_≡_, refl, _∙_}
 use mathlib.Core.List.{_++_, append-nil}
@@ -10,8 +10,8 @@ use Rattle.float.specs.Binary64.{plusZero}
 use Rattle.vector.specs.Loops.{upto}
 use Rattle.text.specs.Lines.{valueAt, wordsOf}
 use Rattle.text.proofs.Words.{turn}
-use Rattle.text.proofs.lines.words.Statement.{statement}
-use Rattle.text.proofs.lines.words.Tie as tie
+use Rattle.text.proofs.forms.words.Statement.{statement}
+use Rattle.text.proofs.forms.words.Tie as tie
 
 abbrev Inv-loop : tie.InvT-loop
 Inv-loop from fields w₀ i₀ w i = (i ≤ 17) × (w ≡ upto (λ k. valueAt fields (from + k)) i ++ replicate (17 - i) plusZero)

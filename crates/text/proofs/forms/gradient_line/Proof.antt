@@ -1,8 +1,8 @@
--- `text::lines::gradient_line` meets its contract: each return follows the calls and tests that led to it. Assumes nothing.
+-- `text::forms::gradient_line` meets its contract: each return follows the calls and tests that led to it. Assumes nothing.
 use borrow.Author.Needs.{needs}
 use Rattle.text.specs.Lines.{gradientLineOf, wordsOf}
-use Rattle.text.proofs.lines.gradient_line.Statement.{statement}
-use Rattle.text.proofs.lines.gradient_line.Tie as tie
+use Rattle.text.proofs.forms.gradient_line.Statement.{statement}
+use Rattle.text.proofs.forms.gradient_line.Tie as tie
 
 pub gradient-line-spec : {M : Type 1} → statement M
 unfolding gradientLineOf wordsOf

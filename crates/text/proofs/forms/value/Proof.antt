@@ -1,4 +1,4 @@
--- `text::lines::value` meets its contract: a pattern whose magnitude is at most the infinity's is no NaN's. Assumes nothing.
+-- `text::forms::value` meets its contract: a pattern whose magnitude is at most the infinity's is no NaN's. Assumes nothing.
 use borrow.Author.Needs.{needs}
 use borrow.Author.Tests.{le-ltb}
 use native.Mathlib.Omega.{arith}
@@ -6,8 +6,8 @@ use Prim.Native.Nat.{_%_, _^_}
 use lib.Bits.{and-mask}
 use lib.Ieee.Bits.{nanBits-above}
 use Rattle.text.proofs.Words.{nan-bits}
-use Rattle.text.proofs.lines.value.Statement.{statement}
-use Rattle.text.proofs.lines.value.Tie as tie
+use Rattle.text.proofs.forms.value.Statement.{statement}
+use Rattle.text.proofs.forms.value.Tie as tie
 
 pub value-spec : {M : Type 1} → statement M
 value-spec =

@@ -1,8 +1,8 @@
--- `text::lines::answer_line` meets its contract: each return follows the calls and tests that led to it. Assumes nothing.
+-- `text::forms::answer_line` meets its contract: each return follows the calls and tests that led to it. Assumes nothing.
 use borrow.Author.Needs.{needs}
 use Rattle.text.specs.Lines.{answerLineOf}
-use Rattle.text.proofs.lines.answer_line.Statement.{statement}
-use Rattle.text.proofs.lines.answer_line.Tie as tie
+use Rattle.text.proofs.forms.answer_line.Statement.{statement}
+use Rattle.text.proofs.forms.answer_line.Tie as tie
 
 pub answer-line-spec : {M : Type 1} → statement M
 unfolding answerLineOf

@@ -1,8 +1,8 @@
--- `text::lines::word_count` meets its contract: each return follows the calls and tests that led to it. Assumes nothing.
+-- `text::forms::word_count` meets its contract: each return follows the calls and tests that led to it. Assumes nothing.
 use borrow.Author.Tests.{le-ltb, lt-ltb}
 use Rattle.text.specs.Lines.{wordCountOf}
-use Rattle.text.proofs.lines.word_count.Statement.{statement}
-use Rattle.text.proofs.lines.word_count.Tie as tie
+use Rattle.text.proofs.forms.word_count.Statement.{statement}
+use Rattle.text.proofs.forms.word_count.Tie as tie
 
 pub word-count-spec : {M : Type 1} → statement M
 unfolding wordCountOf

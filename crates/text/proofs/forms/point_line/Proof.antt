@@ -1,8 +1,8 @@
--- `text::lines::point_line` meets its contract: each return follows the calls and tests that led to it. Assumes nothing.
+-- `text::forms::point_line` meets its contract: each return follows the calls and tests that led to it. Assumes nothing.
 use borrow.Author.Needs.{needs}
 use Rattle.text.specs.Lines.{pointLineOf}
-use Rattle.text.proofs.lines.point_line.Statement.{statement}
-use Rattle.text.proofs.lines.point_line.Tie as tie
+use Rattle.text.proofs.forms.point_line.Statement.{statement}
+use Rattle.text.proofs.forms.point_line.Tie as tie
 
 pub point-line-spec : {M : Type 1} → statement M
 unfolding pointLineOf
