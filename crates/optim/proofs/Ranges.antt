@@ -8,15 +8,15 @@ use native.Mathlib.Omega.{arith}
 use lib.Dec.{T, eqb, ltb, leb}
 use lib.ListN.{length}
 use lib.Ieee.{Float}
-use borrow.Author.Tests.{ltb-false, leb-true, eqb-true, eqb-false, ne-eqb, eq-eqb}
+use borrow.Author.Tests.{ltb-false, leb-true, eqb-true, eqb-false, ne-eqb}
 use Rattle.protocol.specs.declared.SimplexOptions.{SimplexOptions}
 use Rattle.protocol.specs.declared.Allowances.{Allowances}
 use Rattle.objective.specs.Step.{begunOf}
 use Rattle.objective.proofs.Follows.{told-within}
 use Rattle.optim.specs.declared.Record.{Record}
-use Rattle.optim.specs.Record.{simplexMark, differencesMark, most, mostAllowed, mostRestarts, lastPhase, validSimplexOf, validOf, Ranges, Open, Stands}
+use Rattle.optim.specs.Record.{simplexMark, differencesMark, most, validSimplexOf, validOf, Ranges, Open, Stands}
 use Rattle.optim.specs.Answer.{overOf, steppedOf, suitsOf}
-use Rattle.optim.specs.Start.{begunRecordOf, excessOf, pastLimitsOf, toleranceOf, positiveOf, startRefusalOf, simplexRecordOf}
+use Rattle.optim.specs.Start.{begunRecordOf, excessOf, pastLimitsOf, startRefusalOf, simplexRecordOf}
 
 -- a chain of tests that is true has passed each
 passed : (b x : Bool) → cond b false x ≡ true → (b ≡ false) × (x ≡ true)

@@ -9,8 +9,6 @@ use protocol::Allowances;
 use protocol::Said;
 use protocol::SimplexOptions;
 ghost use mathlib.Core.Path.{_≡_};
-ghost use Prim.Native.Nat.{_≤_};
-ghost use lib.ListN.{length};
 ghost use Rattle.optim.specs.Record.{outcomeOf, validSimplexOf, validOf, Ranges, Open};
 ghost use Rattle.optim.specs.Answer.{refusedOf, repeatsOf, steppedOf, takenOf, suitsOf, heardOf, answerOf};
 ghost use Rattle.optim.specs.Start.{differencesOf, simplexOf};
