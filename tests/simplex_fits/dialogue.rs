@@ -169,8 +169,9 @@ impl Dialogue {
             ("accepted", standing(run, self.accepted))
         };
         self.reached.insert(name);
-        if over && name == "no 15" {
-            self.reached.insert(if matches!(run.outcome, Outcome::Result(_)) { "no 15: after an end" } else { "no 15: after 20" });
+        if name == "no 15" {
+            let ended = matches!(run.outcome, Outcome::Result(_));
+            self.reached.insert(if ended { "no 15: after an end" } else { "no 15: after 20" });
         }
         reply
     }

@@ -17,6 +17,8 @@ pub enum Shape {
     FewByCall(&'static [f64]),
     Noise,
     NoiseByCall,
+    // Least where a coordinate is NaN: moves that left the finite range lead there.
+    LeastAtNan,
     // Any bits at all as the value.
     Bits,
     // Least at -0.0, and then the less the nearer to +0.0: a simplex about -0.0 halves until it underflows to +0.0.
@@ -94,6 +96,7 @@ impl Objective {
             Shape::FewByCall(list) => list[(by_call % list.len() as u64) as usize],
             Shape::Noise => unit(by_point),
             Shape::NoiseByCall => unit(by_call),
+            Shape::LeastAtNan => if x.iter().any(|v| v.is_nan()) { -1.0 } else { 1.0 },
             Shape::Bits => f64::from_bits(by_point),
             Shape::Vanishing if x[0].to_bits() == 1 << 63 => -1.0,
             Shape::Vanishing if x[0] < 0.0 => f64::MAX,

@@ -4,7 +4,7 @@
 use crate::fits::{fit, Fit};
 use crate::reached::{self, Reached, OF_THE_PIPE};
 
-const POOL: u64 = 10_000;
+const POOL: u64 = 20_000;
 const MOST_BYTES: usize = 400_000;
 // Past the first time that all is held, only fits of fewer bytes are taken.
 const SHORT: usize = 8_000;
@@ -52,6 +52,7 @@ fn counted() -> Reached {
 fn choose(count: usize, seed: u64) -> Result<Vec<u64>, Reached> {
     let mut pool: Vec<Candidate> = (0..POOL)
         .map(|i| fit(seed.wrapping_add(i)))
+        .filter(|fit| !fit.entries.is_empty())
         .map(|fit| Candidate { seed: fit.seed, bytes: text(&fit).len(), reached: fit.reached })
         .collect();
     let mut missing = counted();

@@ -78,7 +78,8 @@ pub const MOVES: &[&str] = &[
     "end with more fevals than max_fevals",
     "end by the default max_iter",
     "end by the default max_fevals",
-    "end by a default allowance, with restarts",
+    "end by the default max_iter, with restarts",
+    "end by the default max_fevals, with restarts",
     "end with the best of an earlier run",
     "end at a NaN coordinate",
     "left unfinished",
@@ -123,6 +124,12 @@ pub fn note_moves(reached: &mut Reached, start: &Start, run: &Run, told: usize) 
 
 fn largest(values: impl Iterator<Item = f64>) -> f64 {
     values.fold(0.0, f64::max)
+}
+
+// Every two values, the one that stands first before the other.
+fn pairs(values: &[f64]) -> Vec<(f64, f64)> {
+    let before = |(j, b): (usize, &f64)| values[..j].iter().map(|a| (*a, *b)).collect::<Vec<_>>();
+    values.iter().enumerate().flat_map(before).collect()
 }
 
 fn positive_zero(v: f64) -> bool {
@@ -210,14 +217,15 @@ impl Shadow<'_> {
 
     fn order(&mut self, simplex: &mut [Vertex]) {
         let f: Vec<f64> = simplex.iter().map(|v| v.f).collect();
-        let pairs: Vec<(f64, f64)> = (1..f.len()).flat_map(|j| f[..j].iter().map(move |a| (*a, j))).map(|(a, j)| (a, f[j])).collect();
+        let pairs = pairs(&f);
         self.mark(pairs.iter().any(|(a, b)| a == b && a.is_finite()), "order: equal values");
         self.mark(pairs.iter().any(|(a, b)| a == b && a.is_infinite()), "order: infinite values");
         self.mark(pairs.iter().any(|(a, b)| negative_zero(*a) && positive_zero(*b)), "order: -0.0 and +0.0 as they stood");
         self.mark(pairs.iter().any(|(a, b)| positive_zero(*a) && negative_zero(*b)), "order: +0.0 and -0.0 changed about");
         simplex.sort_by(|a, b| a.f.total_cmp(&b.f));
         let first = &simplex[0];
-        let equal = first.f == self.best.f && !first.x.iter().map(|v| v.to_bits()).eq(self.best.x.iter().map(|v| v.to_bits()));
+        let apart = first.x.iter().zip(&self.best.x).any(|(a, b)| a < b || a > b);
+        let equal = apart && first.f == self.best.f;
         if first.f < self.best.f {
             self.best = Vertex { x: first.x.clone(), f: first.f };
         }
@@ -266,7 +274,8 @@ impl Shadow<'_> {
     fn round(&mut self, simplex: &mut [Vertex]) -> Option<()> {
         let n = simplex.len() - 1;
         let (first, second, worst) = (simplex[0].f, simplex[n - 1].f, simplex[n].f);
-        let vanished = (0..n).any(|i| positive_zero(simplex[n].x[i]) && simplex[..n].iter().all(|v| negative_zero(v.x[i])));
+        let others = |i: usize| simplex[..n].iter().map(move |v| v.x[i]);
+        let vanished = (0..n).any(|i| positive_zero(simplex[n].x[i]) && others(i).all(negative_zero));
         self.mark(vanished, "centroid of -0.0 alone, from a worst of +0.0");
         self.mark(n == 1, "round of n 1");
         self.mark(n == 2 && self.start.adaptive, "round of n 2, adaptive");
@@ -279,7 +288,9 @@ impl Shadow<'_> {
             self.mark(true, "reflection below the best");
             let expanded = self.ask()?;
             self.by_coefficients(n > 2, ["expansion, n above 2, adaptive", "expansion, n above 2, not adaptive"]);
-            self.mark(expanded.f == reflected.f, "expansion left at an equal value");
+            // Where both points are one, as with infinite coordinates, it does not show which was taken.
+            let apart = expanded.x.iter().zip(&reflected.x).any(|(a, b)| a < b || a > b);
+            self.mark(apart && expanded.f == reflected.f, "expansion left at an equal value");
             let taken = expanded.f < reflected.f;
             self.mark(true, if taken { "expansion taken" } else { "expansion left" });
             simplex[n] = if taken { expanded } else { reflected };
@@ -334,7 +345,8 @@ impl Shadow<'_> {
         self.mark(later, in_later_run);
         self.mark(by_iter, "end by the default max_iter");
         self.mark(by_fevals, "end by the default max_fevals");
-        self.mark((by_iter || by_fevals) && restarts, "end by a default allowance, with restarts");
+        self.mark(by_iter && restarts, "end by the default max_iter, with restarts");
+        self.mark(by_fevals && restarts, "end by the default max_fevals, with restarts");
         if matches!(ending, Some(Ending::Reason(_))) {
             self.mark(self.iterations == 0, "end with no round");
             self.mark(self.calls as u64 > self.max_fevals(), "end with more fevals than max_fevals");

@@ -145,13 +145,14 @@ fn failing_later(random: &mut Random) -> Drawn {
 // As many runs as are allowed.
 fn many_runs(random: &mut Random) -> Drawn {
     let mut start = taken(random);
-    (start.x_tol, start.f_tol, start.restarts) = (1e300, random.pick(&[0.0, 1.0, 1e300]), random.pick(&[5, 100]));
+    (start.x_tol, start.f_tol, start.restarts) = (1e300, random.pick(&[0.0, 1.0, 1.0, 2.0, 1e300]), random.pick(&[5, 100]));
     if random.chance(30) {
         start.max_iter = Some(0);
     }
     let n = 1 + random.below(2) as usize;
     start.x0 = point(random, n);
-    let shape = random.pick(&[Shape::FewByCall(TIED), Shape::NoiseByCall, Shape::Sphere, Shape::Constant, Shape::FewByCall(ZEROS)]);
+    let by_call = [Shape::FewByCall(TIED), Shape::FewByCall(TIED), Shape::NoiseByCall, Shape::FewByCall(ZEROS)];
+    let shape = if random.chance(60) { random.pick(&by_call) } else { random.pick(&[Shape::Sphere, Shape::Constant]) };
     Drawn { start, objective: Objective::new(shape, Failing::Never, random.next()), most: 700 }
 }
 
@@ -160,7 +161,8 @@ fn zeros(random: &mut Random) -> Drawn {
     let mut start = taken(random);
     start.f_tol = random.pick(&[0.0, 1e-8, 1e300]);
     start.x_tol = random.pick(&[0.0, 1e-8, 1e-2, 1e300]);
-    let shape = random.pick(&[Shape::Few(ZEROS), Shape::FewByCall(ZEROS), Shape::Few(ZEROS_AND_MORE), Shape::FewByCall(ZEROS_AND_MORE)]);
+    let list = random.pick(&[ZEROS, ZEROS_AND_MORE]);
+    let shape = random.pick(&[Shape::Few(list), Shape::FewByCall(list)]);
     Drawn { start, objective: Objective::new(shape, Failing::Never, random.next()), most: 150 }
 }
 
@@ -168,20 +170,28 @@ fn zeros(random: &mut Random) -> Drawn {
 fn infinite(random: &mut Random) -> Drawn {
     let mut start = taken(random);
     start.initial_step = random.pick(&[1.0, 2.0, 1e16, 1e300]);
+    if random.chance(50) {
+        // The size test passes over NaN, so that a run ends there and the next is built about it.
+        (start.f_tol, start.restarts) = (random.pick(&[0.0, 1e300, 1e300]), 1 + random.below(2));
+        (start.max_iter, start.max_fevals) = (None, None);
+    }
     for v in start.x0.iter_mut() {
         *v = random.pick(&[1e300, -1e300, MAX, -MAX, 1.0]);
     }
-    let shape = random.pick(&[Shape::Few(TIED), Shape::Noise, Shape::NoiseByCall, Shape::Constant]);
+    let shape = random.pick(&[Shape::Few(TIED), Shape::Noise, Shape::NoiseByCall, Shape::Constant, Shape::LeastAtNan]);
     Drawn { start, objective: Objective::new(shape, Failing::Never, random.next()), most: 100 }
 }
 
 // A fit that never settles, so that an allowance ends it, the default one too.
 fn endless(random: &mut Random) -> Drawn {
     let mut start = taken(random);
-    (start.x_tol, start.f_tol, start.restarts) = (random.pick(&[1e-8, 0.0, 1.0]), 1e-8, random.below(3));
+    (start.x_tol, start.f_tol, start.restarts) = (random.pick(&[1e-8, 0.0, 1.0]), 1e-8, random.pick(&[0, 1, 1, 2]));
     start.max_iter = random.pick(&[None, None, Some(0), Some(7), Some(60)]);
     start.max_fevals = random.pick(&[None, Some(1_000_000), Some(1_000_000), Some(2), Some(80)]);
-    let n = 1 + random.below(2) as usize;
+    if random.chance(15) {
+        (start.max_iter, start.max_fevals) = (Some(0), Some(2));
+    }
+    let n = random.pick(&[1, 1, 2]);
     start.x0 = point(random, n);
     let shape = random.pick(&[Shape::NoiseByCall, Shape::NoiseByCall, Shape::FewByCall(TIED)]);
     Drawn { start, objective: Objective::new(shape, Failing::Never, random.next()), most: 3000 }
