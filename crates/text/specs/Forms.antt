@@ -1,0 +1,172 @@
+-- The forms of the lines, over lists of bytes: fields, what a field may be, and what each line's places ask for. Definitions only.
+use Prim.Native.Nat.{ℕ, zero, suc, _+_, _-_, _*_}
+use mathlib.Core.Bool.{Bool, true, false, _&&_, cond}
+use mathlib.Core.List.{List, [], _∷_, _++_}
+use lib.ListN.{length, getD}
+use lib.Dec.{eqb, leb, ltb}
+use Rattle.text.specs.declared.Reading.{Reading}
+use Rattle.text.specs.declared.Line.{Line}
+
+-- the largest u64
+abbrev pub most : ℕ
+most = 18446744073709551615
+
+-- ---- fields
+
+-- A line's fields, of which f is begun: "Fields are separated by exactly one space", so that a second space, or one at an end, makes an empty field.
+unfoldable pub fieldsFrom : List ℕ → List ℕ → List (List ℕ)
+fieldsFrom f [] = f ∷ []
+fieldsFrom f (b ∷ bs) = cond (eqb b 32) (f ∷ fieldsFrom [] bs) (fieldsFrom (f ++ (b ∷ [])) bs)
+
+abbrev pub fields : List ℕ → List (List ℕ)
+fields bs = fieldsFrom [] bs
+
+-- ---- numbers
+
+-- a byte as a digit: `0` to `9`, then `A` to `F`, and 99 for any other
+unfoldable pub digitOf : ℕ → ℕ
+digitOf b = cond (ltb b 48) 99 (cond (leb b 57) (b - 48) (cond (ltb b 65) 99 (cond (leb b 70) (b - 55) 99)))
+
+unfoldable pub digits : List ℕ → List ℕ
+unfolding digitOf
+digits [] = []
+digits (b ∷ bs) = digitOf b ∷ digits bs
+
+-- whether each is a digit to the base
+unfoldable pub below : ℕ → List ℕ → Bool
+below base [] = true
+below base (d ∷ ds) = ltb d base && below base ds
+
+-- the number that v and then the digits spell, the most significant first
+unfoldable pub spelt : ℕ → ℕ → List ℕ → ℕ
+spelt base v [] = v
+spelt base v (d ∷ ds) = spelt base (v * base + d) ds
+
+-- whether two texts are one
+unfoldable pub same : List ℕ → List ℕ → Bool
+same [] [] = true
+same [] (b ∷ bs) = false
+same (a ∷ xs) [] = false
+same (a ∷ xs) (b ∷ bs) = eqb a b && same xs bs
+
+-- ---- what a field may be: one of six shapes
+
+-- none that its place asks for
+abbrev pub malformed : Reading
+malformed = record { ok = false; given = false; word = 0 }
+
+abbrev pub formed : ℕ → Reading
+formed w = record { ok = true; given = true; word = w }
+
+-- "`-` absent"
+abbrev pub absent : Reading
+absent = record { ok = true; given = false; word = 0 }
+
+-- "f64 bits are shown as 16 hexadecimal digits": exactly 16 out of 0-9 and A-F
+unfoldable pub wordField : List ℕ → Reading
+wordField f = cond (eqb (length f) 16 && below 16 (digits f)) (formed (spelt 16 0 (digits f))) malformed
+
+-- "other numbers are decimal": one or more of 0-9, at most 2^64 - 1
+unfoldable pub decimalField : List ℕ → Reading
+decimalField f = cond (eqb (length f) 0) malformed (cond (below 10 (digits f) && leb (spelt 10 0 (digits f)) most) (formed (spelt 10 0 (digits f))) malformed)
+
+-- "max_iter max_fevals (`-` absent)"
+unfoldable pub maybeField : List ℕ → Reading
+maybeField f = cond (same f (45 ∷ [])) absent (decimalField f)
+
+-- "(0 or 1)"
+unfoldable pub flagField : List ℕ → Reading
+flagField f = cond (same f (48 ∷ [])) (formed 0) (cond (same f (49 ∷ [])) (formed 1) malformed)
+
+-- "a kind (V for a value, G for a gradient)"
+unfoldable pub letterField : List ℕ → Reading
+letterField f = cond (same f (86 ∷ [])) (formed 86) (cond (same f (71 ∷ [])) (formed 71) malformed)
+
+-- "`simplex`, `bfgs` or `lbfgs`": the job marks 1, 2 and 3
+unfoldable pub jobField : List ℕ → Reading
+jobField f =
+    cond (same f (115 ∷ 105 ∷ 109 ∷ 112 ∷ 108 ∷ 101 ∷ 120 ∷ [])) (formed 1)
+    (cond (same f (98 ∷ 102 ∷ 103 ∷ 115 ∷ [])) (formed 2)
+    (cond (same f (108 ∷ 98 ∷ 102 ∷ 103 ∷ 115 ∷ [])) (formed 3)
+    malformed))
+
+-- the shapes, by number
+abbrev pub word : ℕ
+word = 1
+
+abbrev pub decimal : ℕ
+decimal = 2
+
+abbrev pub maybe : ℕ
+maybe = 3
+
+abbrev pub flag : ℕ
+flag = 4
+
+abbrev pub letter : ℕ
+letter = 5
+
+abbrev pub job : ℕ
+job = 6
+
+-- a field read as a shape
+unfoldable pub fieldAs : ℕ → List ℕ → Reading
+fieldAs k f =
+    cond (eqb k word) (wordField f)
+    (cond (eqb k decimal) (decimalField f)
+    (cond (eqb k maybe) (maybeField f)
+    (cond (eqb k flag) (flagField f)
+    (cond (eqb k letter) (letterField f)
+    (cond (eqb k job) (jobField f)
+    malformed)))))
+
+-- ---- lines
+
+-- The shape of the field at i of a line, or 0 where there is to be none. Forms 1 to 5 are
+-- "Line 1: `simplex`, `bfgs` or `lbfgs`, and n.";
+-- "Line 2, simplex: x_tol f_tol initial_step as bits, max_iter max_fevals (`-` absent), restarts, adaptive (0 or 1)";
+-- "others: grad_tol f_tol x_tol c1 c2 step_max as bits, max_iter max_fevals max_evals memory, gradients (0 or 1).";
+-- "Line 3: x0."; "answers: number, kind, words."
+unfoldable pub shapeAtOf : ℕ → ℕ → ℕ
+shapeAtOf form i =
+    cond (eqb form 1) (getD (job ∷ decimal ∷ []) i 0)
+    (cond (eqb form 2) (getD (word ∷ word ∷ word ∷ maybe ∷ maybe ∷ decimal ∷ flag ∷ []) i 0)
+    (cond (eqb form 3) (getD (word ∷ word ∷ word ∷ word ∷ word ∷ word ∷ maybe ∷ maybe ∷ decimal ∷ decimal ∷ flag ∷ []) i 0)
+    (cond (eqb form 4) word
+    (cond (eqb form 5) (cond (ltb i 2) (getD (decimal ∷ letter ∷ []) i 0) word)
+    0))))
+
+-- what fields are, of which the first stands at i
+unfoldable pub readingsFrom : ℕ → ℕ → List (List ℕ) → List Reading
+readingsFrom form i [] = []
+readingsFrom form i (f ∷ fs) = fieldAs (shapeAtOf form i) f ∷ readingsFrom form (suc i) fs
+
+-- what the fields of a line of a form are
+abbrev pub readings : ℕ → List ℕ → List Reading
+readings form bs = readingsFrom form 0 (fields bs)
+
+unfoldable pub allOk : List Reading → Bool
+allOk [] = true
+allOk (v ∷ vs) = v .ok && allOk vs
+
+-- the first k, and `malformed` where there are fewer
+unfoldable pub firsts : ℕ → List Reading → List Reading
+firsts zero vs = []
+firsts (suc k) [] = malformed ∷ firsts k []
+firsts (suc k) (v ∷ vs) = v ∷ firsts k vs
+
+-- no larger than the largest u64
+abbrev pub capped : ℕ → ℕ
+capped n = cond (ltb n most) n most
+
+-- whether the line has no byte
+unfoldable pub empty : List ℕ → Bool
+empty [] = true
+empty (b ∷ bs) = false
+
+-- What is read off a line of a form: how many fields it has, whether each has its shape, whether it is empty, and the first twenty
+unfoldable pub lineOf : ℕ → List ℕ → Line
+unfolding fieldsFrom
+lineOf form bs =
+    let vs = readings form bs in
+    record { form = form; count = capped (length vs); ok = allOk vs; empty = empty bs; fields = firsts 20 vs }

@@ -1,0 +1,4 @@
+pub mod Forms
+pub mod Reader
+pub mod Lines
+pub mod Laws
