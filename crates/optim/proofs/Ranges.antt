@@ -120,8 +120,10 @@ default-fits n k h j = lt-of-le-of-lt (le-trans (mul-le-mul-right (1 + k) (small
   where
     small : (n : ℕ) → n ≤ 16 → 200 * n ≤ 3200
     small n h = omega arith
+
     more : (k : ℕ) → k ≤ 100 → 1 + k ≤ 101
     more k j = omega arith
+
     below : 3200 * 101 < 2 ^ 64
     below = omega arith
 

@@ -8,6 +8,7 @@ use objective::Differences;
 use protocol::Allowances;
 use protocol::Said;
 use protocol::SimplexOptions;
+pub use starts::blank;
 ghost use mathlib.Core.Path.{_≡_};
 ghost use Prim.Native.Nat.{_≤_};
 ghost use lib.ListN.{length};
