@@ -8,6 +8,7 @@ use objective::Differences;
 use protocol::Allowances;
 use protocol::Said;
 use protocol::SimplexOptions;
+pub use starts::blank;
 ghost use mathlib.Core.Path.{_≡_};
 ghost use Rattle.optim.specs.Record.{outcomeOf, validSimplexOf, validOf, Ranges, Open};
 ghost use Rattle.optim.specs.Answer.{refusedOf, repeatsOf, steppedOf, takenOf, suitsOf, heardOf, answerOf};

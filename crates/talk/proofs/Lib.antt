@@ -1,0 +1,5 @@
+pub mod Few
+pub mod Lends
+pub mod Scans
+pub mod Shows
+pub mod Program

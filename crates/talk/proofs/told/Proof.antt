@@ -1,0 +1,20 @@
+-- `talk::told` meets its contract: the engine's reply is shown, and its record kept. Assumes nothing.
+use borrow.Author.Needs.{needs}
+use mathlib.Core.Path.{sym, subst}
+use Rattle.protocol.specs.Protocol.{Reply}
+use Rattle.optim.specs.declared.Record.{Record}
+use Rattle.optim.specs.Record.{outcomeOf}
+use Rattle.talk.specs.Talk.{Few, toldOf}
+use Rattle.talk.proofs.Few.{answer-few}
+use Rattle.talk.proofs.told.Statement.{statement}
+use Rattle.talk.proofs.told.Tie as tie
+
+pub told-spec : {M : Type 1} → statement M
+unfolding toldOf outcomeOf
+told-spec =
+    tie.close
+    (tie.spec
+    (λ c κs. search needs)
+    (λ c κs. subst (λ (o : Reply × Record). Few (o .0) (o .1 .n)) (sym (c .before .answer .ensures)) (answer-few _ _ _ _))
+    (λ c κs. search needs)
+    (λ c. (rw (← c .before .before .before .before .answer .ensures, ← c .before .before .shown .ensures .0, ← c .following .ensures), rw (← c .before .before .before .before .answer .ensures) (c .before .before .shown .ensures .1))))

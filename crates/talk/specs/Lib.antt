@@ -1,0 +1,3 @@
+pub mod Talk
+pub mod Program
+pub mod Laws
