@@ -33,6 +33,7 @@ pub const MOVES: &[&str] = &[
     "spread equal to f_tol, above 0",
     "size met by its floor alone",
     "spread met by its floor alone",
+    "last run ends with f_tol equal to the resolution",
     "tolerances met with max_iter used up",
     "max_iter and max_fevals used up at once",
     "centroid of -0.0 alone, from a worst of +0.0",
@@ -248,6 +249,9 @@ impl Shadow<'_> {
         self.mark(small && spread == self.start.f_tol && spread > 0.0, "spread equal to f_tol, above 0");
         self.mark(small && level && size > self.start.x_tol, "size met by its floor alone");
         self.mark(small && level && spread > self.start.f_tol, "spread met by its floor alone");
+        let last_run = self.runs == self.start.restarts;
+        let equal = last_run && self.start.f_tol == resolution;
+        self.mark(small && level && equal, "last run ends with f_tol equal to the resolution");
         self.mark(small && level && no_iter, "tolerances met with max_iter used up");
         self.mark(no_iter && no_fevals && !(small && level), "max_iter and max_fevals used up at once");
         if small && level {
