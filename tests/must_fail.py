@@ -46,28 +46,31 @@ def table(rows):
     lines = [
         "# Must-fail edits",
         "",
-        "Each edit changes an operand or a constant, and `rt ci` holds the prover to refusing it. The last column is the file of",
-        "the first refusal. Made by `tests/must_fail.py --table` from the logs of a run; the same script, with no argument, fails",
+        "Each edit changes an operand or a constant (or, for an order, exchanges two lines), and `rt ci` holds the prover to",
+        "refusing it. Made by `tests/must_fail.py --table`; the same script, with no argument, reads the logs of a run and fails",
         "where an edit was refused for its shape alone.",
         "",
-        "| Edit | What it would do | From | To | Refused first in |",
+        "| Edit | What it would do | File | From | To |",
         "|---|---|---|---|---|",
     ]
 
     def code(text):
         return "`` " + text.replace("|", "\\|") + " ``"
 
-    for label, why, place, pairs in rows:
+    for label, why, file, pairs in rows:
         old = "; ".join(code(o) for o, _ in pairs)
         new = "; ".join(code(n) for _, n in pairs)
-        lines.append(f"| {label} | {why} | {old} | {new} | {place} |")
+        lines.append(f"| {label} | {why} | {file} | {old} | {new} |")
     return "\n".join(lines) + "\n"
 
 
 def main():
     faults, rows, seen = [], [], set()
-    for label, why, _, pairs in edits():
+    for label, why, file, pairs in edits():
         seen.add(label)
+        rows.append((label, why, file, pairs))
+        if not why:
+            faults.append(f"{label}: its first line does not say what it would do")
         log = TARGET / label / ".log"
         if not log.exists():
             faults.append(f"{label}: no log: run `rt ci` or `rt must-fail` first")
@@ -78,22 +81,20 @@ def main():
             faults.append(f"{label}: the prover did not refuse it")
         elif SHAPE.search(words):
             faults.append(f"{label}: refused for its shape alone, at {place}: {words[:160]}")
-        if not why:
-            faults.append(f"{label}: its first line does not say what it would do")
-        rows.append((label, why, place, pairs))
     for log in sorted(TARGET.glob("*/*/.log")):
         label = f"{log.parts[-3]}/{log.parts[-2]}"
         if label not in seen:
             faults.append(f"{label}: a log of no edit: run `rt ci` again")
     if "--table" in sys.argv[1:]:
         sys.stdout.write(table(rows))
-    elif not TABLE.exists() or TABLE.read_text() != table(rows):
+        return 0
+    if not TABLE.exists() or TABLE.read_text() != table(rows):
         faults.append(f"{TABLE} is not the table of these edits: tests/must_fail.py --table > {TABLE}")
     for fault in faults:
         print(fault, file=sys.stderr)
     if not rows:
         print("no edit was found", file=sys.stderr)
-    elif "--table" not in sys.argv[1:]:
+    else:
         print(f"{len(rows)} edits, {len(faults)} faults")
     return 1 if faults or not rows else 0
 
