@@ -1,4 +1,4 @@
--- The code's engine follows the places of Nelder and Mead's text, and so has the mission's 3 (`code-claim`), its bounds (`code-at-most`), and records in range (`in-range`)
+-- The code's engine follows the places of Nelder and Mead's text, and so replies as it does (`as-algorithm`), has the mission's 3 (`code-claim`), its bounds (`code-at-most`), and records in range (`in-range`)
 -- with zeros past n (`zeros`). Assumes nothing.
 use Prim.Native.Nat.{ℕ, _≤_}
 use mathlib.Core.Path.{_≡_, sym, _∙_, subst}
@@ -19,7 +19,7 @@ use Rattle.neldermead.specs.Laws.{gradientless}
 use Rattle.neldermead.proofs.Phases.{simplex-steps}
 use Rattle.neldermead.proofs.Claim.{claim, at-most}
 use Rattle.optim.specs.declared.Record.{Record}
-use Rattle.optim.specs.Engine.{startCode, answerCode, code, CodeClaim, CodeAtMost, InRange, Zeros}
+use Rattle.optim.specs.Engine.{startCode, answerCode, code, CodeClaim, CodeAtMost, InRange, Zeros, AsAlgorithm}
 use Rattle.optim.proofs.EngineRelated.{noPlaces, no-places-laws, allFits, allSteps, Place, Relates}
 use Rattle.optim.proofs.EngineAnswers.{answers, valid-of}
 use Rattle.optim.proofs.EngineStarts.{starts}
@@ -65,6 +65,17 @@ code-at-most =
     record {
       by-fevals = λ f o M j m n l w. fewer f l _ n w (at-most .by-fevals f o M j m l);
       by-iterations = λ f o I j i n l w. fewer f l _ n w (at-most .by-iterations f o I j i l);
+    }
+
+pub as-algorithm : AsAlgorithm
+as-algorithm =
+    record {
+      start-reply = λ f. starts f .0 ∙ texts-follow .starts f .0;
+      questions = same-questions;
+      replies = λ f l n w.
+          alike Record (Placed Place) startCode answerCode (startAt allFits allSteps) (answerAt allFits allSteps) code-follows f l n w .replies
+          ∙ alike (Placed Place) (Kept (allFits .Position)) (startAt allFits allSteps) (answerAt allFits allSteps) (engine allFits .start) (engine allFits .answer) texts-follow f l
+          (subst NotRefused (starts f .0) n) w .replies;
     }
 
 -- ---- the records along a list

@@ -12,6 +12,10 @@ use Rattle.protocol.specs.declared.Allowances.{Allowances}
 use Rattle.protocol.specs.declared.SimplexOptions.{SimplexOptions}
 use Rattle.protocol.specs.Protocol.{Answer, Reply, Job, simplex, bfgs, lbfgs, Fit, Engine}
 use Rattle.protocol.specs.Claim.{GivenF64s, run, Started, limit, iterAllowance, fevalsAllowance, Claim}
+use Rattle.protocol.specs.Rounds.{engine}
+use Rattle.protocol.specs.Fits.{fits}
+use Rattle.neldermead.specs.Algorithm.{nelderMead}
+use Rattle.neldermead.specs.Laws.{gradientless}
 use Rattle.neldermead.specs.Counts.{byFevals, byIterations}
 use Rattle.neldermead.specs.Ties.{ZeroFrom}
 use Rattle.neldermead.specs.Follows.{EveryPoint}
@@ -62,3 +66,9 @@ InRange = (f : Fit) (l : List Answer) → Started code f → validOf (run code f
 -- "Along every list all coordinates past n of every vertex are +0.0", and of every other point of the simplex part
 abbrev pub Zeros : Type 0
 Zeros = (f : Fit) (l : List Answer) → Started code f → EveryPoint (ZeroFrom (run code f l .recordNow .n)) (run code f l .recordNow .simplex)
+
+-- along every list the code puts the Algorithm's questions and gives its replies, results and refusals among them; a start is refused alike
+pub record AsAlgorithm : Type 0 where
+  pub start-reply : (f : Fit) → code .start f .0 ≡ engine (fits nelderMead gradientless) .start f .0
+  pub questions : (f : Fit) (l : List Answer) → Started code f → GivenF64s l → run code f l .questions ≡ run (engine (fits nelderMead gradientless)) f l .questions
+  pub replies : (f : Fit) (l : List Answer) → Started code f → GivenF64s l → run code f l .replies ≡ run (engine (fits nelderMead gradientless)) f l .replies
