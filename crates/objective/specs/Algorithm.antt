@@ -1,5 +1,6 @@
 -- Central differences in direct style: `central_difference_gradient` of objective.rs, over lists of n coordinates. Definitions only.
 use Prim.Native.Nat.{ℕ, zero, suc}
+use mathlib.Core.Bool.{Bool, cond}
 use mathlib.Core.List.{List, [], _∷_, _++_}
 use lib.ListN.{length, set}
 use lib.Ieee.{Float}
@@ -7,7 +8,9 @@ use Rattle.float.specs.Binary64.{_⊕_, _⊖_, _⊗_, _⊘_, bits}
 use Rattle.float.specs.Values.{absOf, maxOf}
 use Rattle.float.specs.Roots.{differenceFactor}
 use Rattle.vector.specs.Loops.{at}
-use Rattle.protocol.specs.Ask.{Ask, finish, askValue, _>>=_}
+use Rattle.vector.specs.Lists.{first}
+use Rattle.protocol.specs.declared.Kind.the-variants.{Gradient}
+use Rattle.protocol.specs.Ask.{Ask, finish, query, askValue, _>>=_}
 
 -- h = base * x[i].abs().max(1.0), with a coordinate's typical size in the place of the 1
 unfoldable pub differenceStep : Float → Float → Float
@@ -40,3 +43,7 @@ module _ (read : Float → Float) where
 
   abbrev pub differences : List Float → Ask (List Float)
   differences x = differencesFrom x (length x) 0 []
+
+  -- `eval_gradient`: the objective's own gradient where it gives them, else central differences
+  abbrev pub evalGradient : Bool → List Float → Ask (List Float)
+  evalGradient gradients x = cond gradients (query Gradient x (λ w. finish (first (length x) w))) (differences x)

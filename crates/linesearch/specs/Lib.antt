@@ -1,0 +1,2 @@
+pub mod Cubic
+pub mod Trials
