@@ -2,7 +2,8 @@
 use mathlib.Core.Bool.{Bool, true, false, cond}
 use lib.Dec.{T}
 use lib.IntN.{pos}
-use lib.Ieee.{Float, nan, inf, fin, lt, isNan}
+use lib.Ieee.{Float, nan, inf, fin, lt, le, isNan}
+use Rattle.float.specs.Binary64.{plusZero}
 
 -- `f64::abs`
 unfoldable pub absOf : Float → Float
@@ -18,6 +19,16 @@ finiteOf (fin s m e) = true
 
 abbrev pub Finite : Float → Type 0
 Finite x = T (finiteOf x)
+
+-- x >= 0.0 && x.is_finite(), as the Rust asks of its tolerances
+unfoldable pub toleranceOf : Float → Bool
+unfolding finiteOf
+toleranceOf x = cond (le plusZero x) (finiteOf x) false
+
+-- x > 0.0 && x.is_finite(), as it asks of its steps
+unfoldable pub positiveOf : Float → Bool
+unfolding finiteOf
+positiveOf x = cond (lt plusZero x) (finiteOf x) false
 
 -- `f64::signum`: 1 with the sign of x, of a zero too, and a NaN for a NaN
 unfoldable pub signumOf : Float → Float

@@ -3,7 +3,7 @@
 ghost use mathlib.Core.Path.{_≡_};
 ghost use Prim.Native.Nat.{_*_, _^_, _<_};
 ghost use lib.Ieee.{lt};
-ghost use Rattle.float.specs.Values.{absOf, finiteOf, signumOf, maxOf, minOf};
+ghost use Rattle.float.specs.Values.{absOf, finiteOf, signumOf, maxOf, minOf, toleranceOf, positiveOf};
 ghost use Rattle.float.specs.Order.{rankOf, keyOf, precedesOf};
 ghost use Rattle.float.specs.Roots.{differenceFactor};
 ghost use Rattle.float.specs.Sqrt.{sqrtOf, rootOf, quantaOfBits, IntegerRoot, FullWidth};
@@ -31,6 +31,25 @@ pub fn is_finite(x: f64) -> bool
         return false;
     }
     (f64::to_bits(x) >> 52) & TOP < TOP
+}
+
+// What a tolerance may be: neither negative nor not finite.
+pub fn tolerance(x: f64) -> bool
+    ensures { λ r. ⌜ r ≡ toleranceOf x ⌝ }
+{
+    if 0.0 <= x {
+        return is_finite(x);
+    }
+    false
+}
+
+pub fn positive(x: f64) -> bool
+    ensures { λ r. ⌜ r ≡ positiveOf x ⌝ }
+{
+    if 0.0 < x {
+        return is_finite(x);
+    }
+    false
 }
 
 pub fn signum(x: f64) -> f64

@@ -1,4 +1,10 @@
 // The strong Wolfe search of linesearch.rs, one answer at a time.
+mod start;
+
+pub use start::counts_refusal;
+pub use start::line_from;
+pub use start::line_refusal;
+pub use start::options_refusal;
 
 // The step of a trial, with the value and the slope there.
 pub struct Trial {

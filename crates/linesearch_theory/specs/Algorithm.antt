@@ -1,22 +1,25 @@
 -- The strong Wolfe search in direct style: `strong_wolfe` of linesearch.rs, over lists of n coordinates. Nocedal and Wright, Numerical Optimization (2006), Algorithms 3.5 and
 -- 3.6, whose lines stand as comments (phi is the objective along the line, a the step), and 01's choices, each named where it is made. Definitions only.
 use Prim.Native.Nat.{ℕ, zero, suc, _-_}
-use mathlib.Core.Bool.{Bool, true, false, not, _||_, cond}
+use mathlib.Core.Bool.{Bool, true, false, not, _&&_, _||_, cond}
 use mathlib.Core.Option.{Option, none, some}
 use mathlib.Core.List.{List, map}
+use lib.Dec.{eqb}
+use lib.ListN.{length}
 use lib.Ieee.{Float, nan, lt, le}
 use Rattle.float.specs.Binary64.{_⊖_, _⊗_, plusZero}
-use Rattle.float.specs.Values.{finiteOf, minOf}
-use Rattle.vector.specs.Lists.{dot, plusScaled}
+use Rattle.float.specs.Values.{finiteOf, positiveOf, minOf}
+use Rattle.vector.specs.Lists.{dot, plusScaled, allFinite}
 use Rattle.protocol.specs.declared.WolfeOptions.{WolfeOptions}
-use Rattle.protocol.specs.Protocol.{readOf}
+use Rattle.protocol.specs.declared.Refusal.{Refusal}
+use Rattle.protocol.specs.Protocol.{readOf, refusal, noRefusal}
 use Rattle.protocol.specs.Ask.{Ask, finish, askValue, _>>=_}
 use Rattle.objective.specs.Algorithm.{evalGradient}
 use Rattle.linesearch.specs.declared.Trial.{Trial}
 use Rattle.linesearch.specs.declared.Evaluation.{Evaluation}
 use Rattle.linesearch.specs.declared.Line.{Line}
 use Rattle.linesearch.specs.Cubic.{interpolateOf}
-use Rattle.linesearch.specs.Trials.{two, startOf, armijoOf, curvatureOf, narrowOf}
+use Rattle.linesearch.specs.Trials.{one, two, startOf, armijoOf, curvatureOf, narrowOf}
 
 -- `WolfeResult`: whether both conditions hold, the trial that is given, and how many were made
 pub record WolfeResult : Type 0 where
@@ -112,3 +115,36 @@ module _ (read : Float → Float) (gradients : Bool) (o : WolfeOptions) (l : Lin
   -- "Set a_0 <- 0, choose a_max > 0 and a_1 in (0, a_max); i <- 1;" 01: "the step starts at min(initial_step, step_max)"
   abbrev pub search : Float → Ask WolfeResult
   search initial = bracket (o .evals) (minOf initial (o .stepmax)) none none
+
+-- ---- `strong_wolfe` whole: its tests in order, by 01's numbers and details, then the search
+
+unfoldable pub wolfeRefusal : WolfeOptions → List Float → List Float → Float → List Float → Float → Refusal
+wolfeRefusal o x d f g step =
+    cond (not (lt plusZero (o .c1) && lt (o .c1) one)) (refusal 5 1)
+    (cond (not (lt (o .c1) (o .c2) && lt (o .c2) one)) (refusal 5 2)
+    (cond (eqb (o .evals) 0) (refusal 6 0)
+    (cond (not (positiveOf (o .stepmax))) (refusal 7 0)
+    (cond (eqb (length x) 0) (refusal 9 0)
+    (cond (not (eqb (length d) (length x))) (refusal 10 0)
+    (cond (not (eqb (length g) (length x))) (refusal 11 0)
+    (cond (not (allFinite x)) (refusal 12 1)
+    (cond (not (allFinite d)) (refusal 12 2)
+    (cond (not (allFinite g)) (refusal 12 3)
+    (cond (not (finiteOf f)) (refusal 12 4)
+    (cond (not (positiveOf step)) (refusal 13 0)
+    -- 01: "a NaN or -infinity slope is not refused"
+    (cond (le plusZero (dot g d)) (refusal 14 0) noRefusal))))))))))))
+
+pub data Searched : Type 0 where
+  refuses : Refusal → Searched
+  gives : WolfeResult → Searched
+
+abbrev pub lineFrom : List Float → List Float → Float → List Float → Line
+lineFrom x d f g = record { x = x; g = g; d = d; f = f; slope = dot g d }
+
+-- strong_wolfe(f, x0, d, f0, g0, initial_step, opts)
+unfoldable pub strongWolfe : (Float → Float) → Bool → WolfeOptions → List Float → List Float → Float → List Float → Float → Ask Searched
+unfolding wolfeRefusal
+strongWolfe read gradients o x d f g step =
+    let why = wolfeRefusal o x d f g step in
+    cond (eqb (why .number) 0) (search read gradients o (lineFrom x d f g) step >>= λ r. finish (gives r)) (finish (refuses why))

@@ -14,6 +14,7 @@ use Rattle.protocol.specs.declared.Termination.the-variants.{GradientTol
 use Rattle.protocol.specs.declared.Allowance.{Allowance}
 use Rattle.protocol.specs.declared.SimplexOptions.{SimplexOptions}
 use Rattle.protocol.specs.declared.GradientOptions.{GradientOptions}
+use Rattle.protocol.specs.declared.Refusal.{Refusal}
 use Rattle.protocol.specs.declared.Said.{Said}
 use Rattle.protocol.specs.declared.Said.the-variants.{Ask, Fitted, Searched, Differenced, Refused}
 
@@ -76,6 +77,13 @@ pub data Reply : Type 0 where
   ask : Question → Reply
   ended : Outcome → Reply
   refused : ℕ → ℕ → Reply
+
+-- a refusal as the code hands it about; no refusal of 01 has the number 0
+abbrev pub refusal : ℕ → ℕ → Refusal
+refusal number detail = record { number = number; detail = detail }
+
+abbrev pub noRefusal : Refusal
+noRefusal = refusal 0 0
 
 -- What the code says, with its point x and gradient g of which the first n coordinates count, as a reply.
 unfoldable pub replyOf : Said → ℕ → List Float → List Float → Reply
