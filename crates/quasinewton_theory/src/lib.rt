@@ -1,0 +1,1 @@
+// No code: the gradient fits in direct style, and what is proved of them.
