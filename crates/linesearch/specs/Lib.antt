@@ -1,2 +1,3 @@
 pub mod Cubic
 pub mod Trials
+pub mod Step
