@@ -1,3 +1,4 @@
 pub mod Cubic
 pub mod Trials
 pub mod Start
+pub mod Step
