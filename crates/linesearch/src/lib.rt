@@ -4,13 +4,12 @@ mod evaluations;
 mod start;
 mod trials;
 
+use objective::Differences;
+use protocol::WolfeOptions;
 pub use start::counts_refusal;
 pub use start::line_from;
 pub use start::line_refusal;
 pub use start::options_refusal;
-
-use objective::Differences;
-use protocol::WolfeOptions;
 ghost use mathlib.Core.Path.{_≡_};
 ghost use Prim.Native.Nat.{_≤_, _<_};
 ghost use Rattle.linesearch.specs.Step.{precedingOf, risenOf, lowerOf, keepOf, failureOf, successOf, evalOf, zoomOf, bracketOf, bracketedOf, zoomedOf, decidedOf, gradedOf, differingOf, evalGradientOf, valuedOf, begunOf, probeOf, toldOf, toldGradientOf};

@@ -184,9 +184,14 @@ storedOf fixed q m t =
 unfoldable pub steppedOf : Descent → Evaluation → Descent
 steppedOf q t =
     record {
-      phase = atHead; number = q .number; detail = q .detail; first = false; rounds = q .rounds;
+      phase = atHead;
+      number = q .number;
+      detail = q .detail;
+      first = false;
+      rounds = q .rounds;
       line = record { x = t .x; g = t .g; d = q .line .d; f = t .trial .value; slope = q .line .slope };
-      search = q .search; diff = q .diff;
+      search = q .search;
+      diff = q .diff;
     }
 
 unfoldable pub succeededOf : Fixed → Descent → Model → Evaluation → ℕ → Settled
@@ -258,7 +263,11 @@ zeros = replicate 16 plusZero
 unfoldable pub idleOf : Descent
 idleOf =
     record {
-      phase = 0; number = 0; detail = 0; first = false; rounds = 0;
+      phase = 0;
+      number = 0;
+      detail = 0;
+      first = false;
+      rounds = 0;
       line = record { x = zeros; g = zeros; d = zeros; f = plusZero; slope = plusZero };
       search = linesearch.noTrial;
       diff = objective.begunOf zeros;
@@ -268,7 +277,11 @@ idleOf =
 unfoldable pub startOf : List Float → Descent
 startOf x =
     record {
-      phase = firstValue; number = 0; detail = 0; first = true; rounds = 0;
+      phase = firstValue;
+      number = 0;
+      detail = 0;
+      first = true;
+      rounds = 0;
       line = record { x = x; g = zeros; d = zeros; f = plusZero; slope = plusZero };
       search = linesearch.noTrial;
       diff = objective.begunOf zeros;
