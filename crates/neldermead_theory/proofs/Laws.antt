@@ -4,7 +4,7 @@ use mathlib.Core.Path.{_≡_, refl, sym, _∙_, subst}
 use mathlib.Core.Logic.{inl, inr, ⊎-elim}
 use mathlib.Core.List.{List, [], _∷_, _++_, map, List·Memᴰ, List·Memᴰ·head, List·Memᴰ·tail, List·Memᴰ·cases-cons, List·Memᴰ·not-nil, List·Memᴰ·append-cases, Memᴰ·append-left, Memᴰ·append-right}
 use mathlib.Core.Bool.{Bool, true, false, not, _||_, cond, true≢false}
-use lib.Dec.{T, leb, ltb, eqb}
+use lib.Dec.{T, leb, eqb}
 use lib.ListN.{length}
 use lib.Ieee.{Float, inf, lt, le, eq, neg}
 use Rattle.float.specs.Binary64.{NotAbove, _⊗_}
@@ -231,8 +231,8 @@ first-built s p x e = then-vertices [] (x ∷ corners (p .options .step) [] x) (
 -- what holds of a refusal and of the first simplex holds of the opening
 pub opening-case : (P : Ask (Ending Position) → Type 0) (o : SimplexOptions) (x : List Float) → ((k d : ℕ) → P (finish (fails k d))) → P (build (nowhere o x) x) → P (opening o x)
 opening-case P o x p q =
-    gate (ltb 16 (length x) || ltb 100 (o .restarts)) 2 0 _ (gate (not (tolerance (o .xtol))) 4 1 _ (gate (not (tolerance (o .ftol))) 4 2 _
-    (gate (not (positiveFinite (o .step))) 8 0 _ (gate (eqb (length x) 0) 9 0 _ (gate (not (allFinite x)) 12 1 (build (nowhere o x) x) q)))))
+    gate (not (tolerance (o .xtol))) 4 1 _ (gate (not (tolerance (o .ftol))) 4 2 _
+    (gate (not (positiveFinite (o .step))) 8 0 _ (gate (eqb (length x) 0) 9 0 _ (gate (not (allFinite x)) 12 1 (build (nowhere o x) x) q))))
   where
     gate : (b : Bool) (k d : ℕ) (m : Ask (Ending Position)) → P m → P (cond b (finish (fails k d)) m)
     gate true k d m h = p k d

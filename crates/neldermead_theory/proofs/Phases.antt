@@ -1,9 +1,9 @@
 -- The phases follow the text of Nelder and Mead's method: `simplex-steps`. Assumes nothing.
 use mathlib.Core.Path.{_≡_, refl, _∙_, ap, fun-ext}
 use mathlib.Core.List.{List, [], _∷_, _++_, append-nil}
-use mathlib.Core.Bool.{Bool, true, false, not, _||_, cond}
+use mathlib.Core.Bool.{Bool, true, false, not, cond}
 use Prim.Native.Nat.{ℕ, _-_}
-use lib.Dec.{leb, ltb, eqb}
+use lib.Dec.{leb, eqb}
 use lib.ListN.{length}
 use lib.Ieee.{Float, lt, le, neg}
 use Rattle.float.specs.Binary64.{_⊗_}
@@ -88,12 +88,11 @@ refusal false k d m t e = e
 opens : (o : SimplexOptions) (x : List Float) → words (openingMove o x) ≡ opening o x
 unfolding _>>=_ askVertices
 opens o x =
-    refusal (ltb 16 (length x) || ltb 100 (o .restarts)) 2 0 _ _
-    (refusal (not (tolerance (o .xtol))) 4 1 _ _
+    refusal (not (tolerance (o .xtol))) 4 1 _ _
     (refusal (not (tolerance (o .ftol))) 4 2 _ _
     (refusal (not (positiveFinite (o .step))) 8 0 _ _
     (refusal (eqb (length x) 0) 9 0 _ _
-    (refusal (not (allFinite x)) 12 1 _ _ refl)))))
+    (refusal (not (allFinite x)) 12 1 _ _ refl))))
 
 -- of the three verdicts only one restarts
 restarted : (b c : Bool) (y : Termination) (n m : Ask (Ending Position)) → cond b (cond c (stop y) (restart n)) goOn ≡ restart m → n ≡ m

@@ -3,7 +3,7 @@
 use Prim.Native.Nat.{ℕ, suc, _-_}
 use mathlib.Core.Bool.{Bool, false, not, _&&_, _||_, cond}
 use mathlib.Core.List.{List, [], _∷_, _++_, map, foldl}
-use lib.Dec.{ltb, leb, eqb}
+use lib.Dec.{leb, eqb}
 use lib.ListN.{length, getD}
 use lib.Ieee.{Float, inf, neg, lt, le}
 use Rattle.float.specs.Binary64.{_⊖_, _⊗_, plusZero}
@@ -156,7 +156,7 @@ rerun p = record { options = p .options; n = p .n; iterations = p .iterations; r
 abbrev pub tests : Position → Verdict Position
 tests p = cond (converged p) (cond (leb (p .options .restarts) (p .runs)) (stop (reason p)) (restart (build (rerun p) (p .best .x)))) goOn
 
--- ---- the start, with its refusals in order: 2, 4, 8, 9, 12
+-- ---- the start, with its refusals in order: 4, 8, 9, 12; 2 comes before them, as in every fit
 
 -- t >= 0.0 && t.is_finite()
 abbrev pub tolerance : Float → Bool
@@ -172,13 +172,12 @@ nowhere o x = record { options = o; n = length x; iterations = 0; runs = 0; best
 
 abbrev pub opening : SimplexOptions → List Float → Ask (Ending Position)
 opening o x =
-    cond (ltb 16 (length x) || ltb 100 (o .restarts)) (finish (fails 2 0))
-    (cond (not (tolerance (o .xtol))) (finish (fails 4 1))
+    cond (not (tolerance (o .xtol))) (finish (fails 4 1))
     (cond (not (tolerance (o .ftol))) (finish (fails 4 2))
     (cond (not (positiveFinite (o .step))) (finish (fails 8 0))
     (cond (eqb (length x) 0) (finish (fails 9 0))
     (cond (not (allFinite x)) (finish (fails 12 1))
-    (build (nowhere o x) x))))))
+    (build (nowhere o x) x)))))
 
 abbrev pub nelderMead : Rounds SimplexOptions
 nelderMead = record { Position = Position; x = λ p. p .best .x; f = λ p. p .best .f; iterations = λ p. p .iterations; opening = opening; tests = tests; round = round }

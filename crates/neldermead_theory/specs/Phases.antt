@@ -1,8 +1,8 @@
 -- The simplex fit one answer at a time, over lists: what the open question is for, and the step that its answer makes. The code's record is held to this. Definitions only.
 use Prim.Native.Nat.{_-_}
-use mathlib.Core.Bool.{not, _||_, cond}
+use mathlib.Core.Bool.{not, cond}
 use mathlib.Core.List.{List, [], _∷_, _++_, map}
-use lib.Dec.{ltb, eqb}
+use lib.Dec.{eqb}
 use lib.ListN.{length, getD}
 use lib.Ieee.{Float, nan, lt, le, neg}
 use Rattle.float.specs.Binary64.{_⊗_}
@@ -76,13 +76,12 @@ buildAt p x = still (building p [] x (corners (p .options .step) [] x))
 
 abbrev pub openingMove : SimplexOptions → List Float → Move
 openingMove o x =
-    cond (ltb 16 (length x) || ltb 100 (o .restarts)) (ends (fails 2 0))
-    (cond (not (tolerance (o .xtol))) (ends (fails 4 1))
+    cond (not (tolerance (o .xtol))) (ends (fails 4 1))
     (cond (not (tolerance (o .ftol))) (ends (fails 4 2))
     (cond (not (positiveFinite (o .step))) (ends (fails 8 0))
     (cond (eqb (length x) 0) (ends (fails 9 0))
     (cond (not (allFinite x)) (ends (fails 12 1))
-    (buildAt (nowhere o x) x))))))
+    (buildAt (nowhere o x) x)))))
 
 abbrev pub simplexSteps : Steps nelderMead
 simplexSteps = record {

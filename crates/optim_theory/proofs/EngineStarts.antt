@@ -21,7 +21,8 @@ use Rattle.vector.proofs.Stores.{first-whole}
 use Rattle.protocol.specs.declared.SimplexOptions.{SimplexOptions}
 use Rattle.protocol.specs.Protocol.{Reply, Job, simplex, bfgs, lbfgs, Fit}
 use Rattle.protocol.specs.Claim.{NotRefused, limit}
-use Rattle.protocol.specs.Rounds.{fails, Limits, limitsOf, excess}
+use Rattle.protocol.specs.PastLimits.{excess, pastLimits}
+use Rattle.protocol.specs.Rounds.{fails, Limits, limitsOf}
 use Rattle.protocol.specs.Places.{ends, Placed, putTurn, mapTurn, startAt}
 use Rattle.neldermead_theory.specs.Algorithm.{nowhere, tolerance, positiveFinite}
 use Rattle.neldermead_theory.specs.Phases.{Move, buildAt, openingMove}
@@ -57,18 +58,16 @@ module _ (l : Limits) where
       go true g = rw z (refl, λ n. absurd n)
       go false g = g refl
 
-  -- those of refusal 2, which stand in another order
+  -- those of refusal 2
   refuse-two : (a b c d : Bool) (why : Refusal) (y : Reply × Record) (t : Move)
-      → (a || d ≡ false → b ≡ false → c ≡ false → a ≡ false → d ≡ false → Begun (decide why y) (putMove l 0 t))
+      → (a ≡ false → b ≡ false → c ≡ false → d ≡ false → Begun (decide why y) (putMove l 0 t))
       → Begun (decide (cond (cond a true (cond b true (cond c true d))) (refusal 2 0) why) y)
-      (putTurn allFits allSteps l 0 0 0 (cond (b || c) (ends (fails 2 0)) (mapTurn inl inl (cond (a || d) (ends (fails 2 0)) t))))
-  refuse-two true true c d why y t h = (refl, λ n. absurd n)
-  refuse-two true false true d why y t h = (refl, λ n. absurd n)
-  refuse-two true false false d why y t h = (refl, λ n. absurd n)
+      (putTurn allFits allSteps l 0 0 0 (cond (a || (b || (c || d))) (ends (fails 2 0)) (mapTurn inl inl t)))
+  refuse-two true b c d why y t h = (refl, λ n. absurd n)
   refuse-two false true c d why y t h = (refl, λ n. absurd n)
   refuse-two false false true d why y t h = (refl, λ n. absurd n)
   refuse-two false false false true why y t h = (refl, λ n. absurd n)
-  refuse-two false false false false why y t h = h refl refl refl refl refl
+  refuse-two false false false false why y t h = h refl refl refl refl
 
   -- the last one
   refuse-point : (b c : Bool) (y : Reply × Record) (t : Move) → b ≡ c → (c ≡ true → Begun y (putMove l 0 t))
@@ -93,7 +92,7 @@ positive-as : (t : Float) → not (positiveOf t) ≡ not (positiveFinite t)
 unfolding positiveOf
 positive-as t = ap not (both-tests (lt plusZero t) (finiteOf t))
 
-excess-as : (k : Option ℕ) → excessOf (allowance k) ≡ excess allFits k
+excess-as : (k : Option ℕ) → excessOf (allowance k) ≡ excess k
 unfolding excessOf
 excess-as none = refl
 excess-as (some k) = refl
@@ -106,7 +105,7 @@ finite-as : (x : List Float) → allFiniteOf (fromSliceOf x (length x)) (length 
 finite-as x = ties .all-finite (fromSliceOf x (length x)) (length x) ∙ ap allFinite (whole x)
 
 -- an allowance that is not refused, or its default, is low
-limit-low : (k : Option ℕ) (n restarts : ℕ) → n ≤ 16 → restarts ≤ 100 → excess allFits k ≡ false → limitOf (allowance k) (200 * n * (1 + restarts)) ≤ mostAllowed
+limit-low : (k : Option ℕ) (n restarts : ℕ) → n ≤ 16 → restarts ≤ 100 → excess k ≡ false → limitOf (allowance k) (200 * n * (1 + restarts)) ≤ mostAllowed
 unfolding limitOf
 limit-low none n restarts h j e = low (200 * n * (1 + restarts)) (le-trans (mul-le-mul-right (1 + restarts) small) (mul-le-mul-left 3200 more))
   where
@@ -147,7 +146,7 @@ module _ (o : SimplexOptions) (i e : Option ℕ) (x : List Float) where
       also none = refl
       also (some k) = refl
 
-  made-sound : n ≤ 16 → 1 ≤ n → o .restarts ≤ 100 → excess allFits i ≡ false → excess allFits e ≡ false → Sound made
+  made-sound : n ≤ 16 → 1 ≤ n → o .restarts ≤ 100 → excess i ≡ false → excess e ≡ false → Sound made
   unfolding simplexRecordOf limitsFor fromSliceOf
   made-sound small above few a b =
       record {
@@ -178,8 +177,8 @@ module _ (o : SimplexOptions) (i e : Option ℕ) (x : List Float) where
   unfolding simplexOf startRefusalOf pastLimitsOf
   simplex-starts =
       rw (excess-as i, excess-as e)
-      (refuse-two l (ltb 16 n) (excess allFits i) (excess allFits e) (ltb 100 (o .restarts)) _ _ _
-      (λ two a b long many.
+      (refuse-two l (ltb 16 n) (excess i) (excess e) (ltb 100 (o .restarts)) _ _ (openingMove o x)
+      (λ long a b many.
       refuse l (not (toleranceOf (o .xtol))) (not (tolerance (o .xtol))) 4 1 _ _ _ (tolerance-as (o .xtol)) refl
       (λ xtol. refuse l (not (toleranceOf (o .ftol))) (not (tolerance (o .ftol))) 4 2 _ _ _ (tolerance-as (o .ftol)) refl
       (λ ftol. refuse l (not (positiveOf (o .step))) (not (positiveFinite (o .step))) 8 0 _ _ _ (positive-as (o .step)) refl
@@ -187,7 +186,7 @@ module _ (o : SimplexOptions) (i e : Option ℕ) (x : List Float) where
       (λ unknowns. refuse-point l (allFiniteOf point n) (allFinite x) _ _ (finite-as x)
       (λ finite. begins
       (made-sound (ltb-false 16 n long) (above n (eqb-false n 0 unknowns)) (ltb-false 100 (o .restarts) many) a b)
-      (rw (two, xtol, ftol, step, unknowns, finite))))))))
+      (rw (xtol, ftol, step, unknowns, finite))))))))
       )
     where
       l : Limits
@@ -206,8 +205,8 @@ no-gradients l false = (refl, λ n. absurd n)
 by-job : (j : Job) (i e : Option ℕ) (x : List Float)
     → Begun (startCode (record { job = j; maxIter = i; maxFevals = e; x0 = x })) (startAt allFits allSteps (record { job = j; maxIter = i; maxFevals = e; x0 = x }))
 by-job (simplex o) i e x = simplex-starts o i e x
-by-job (bfgs o) i e x = no-gradients _ (excess allFits i || excess allFits e)
-by-job (lbfgs o) i e x = no-gradients _ (excess allFits i || excess allFits e)
+by-job (bfgs o) i e x = no-gradients _ (pastLimits (record { job = bfgs o; maxIter = i; maxFevals = e; x0 = x }))
+by-job (lbfgs o) i e x = no-gradients _ (pastLimits (record { job = lbfgs o; maxIter = i; maxFevals = e; x0 = x }))
 
 pub starts : (f : Fit) → Begun (startCode f) (startAt allFits allSteps f)
 starts f = by-job (f .job) (f .maxIter) (f .maxFevals) (f .x0)
