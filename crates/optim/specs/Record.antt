@@ -1,13 +1,17 @@
 -- The record: the blank one, what is in range (refusal 1), and a reply with its record in 01's words. Definitions only.
 use Prim.Native.Nat.{ℕ, _+_, _≤_, _<_}
 use mathlib.Core.Path.{_≡_}
-use mathlib.Core.Bool.{Bool, false, cond}
+use mathlib.Core.Bool.{Bool, false, not, cond}
 use lib.Dec.{leb, ltb, eqb}
 use lib.ListN.{replicate}
 use Rattle.float.specs.Binary64.{plusZero}
 use Rattle.protocol.specs.declared.SimplexOptions.{SimplexOptions}
+use Rattle.protocol.specs.declared.GradientOptions.{GradientOptions}
 use Rattle.protocol.specs.Protocol.{Reply, replyOf}
 use Rattle.objective.specs.Step.{begunOf}
+use Rattle.linesearch.specs.declared.Fixed as linesearchFixed
+use Rattle.linesearch.specs.Step.{failed}
+use Rattle.quasinewton.specs.Step.{searching, idleOf as idleDescent}
 use Rattle.neldermead.specs.declared.Vertex.{Vertex}
 use Rattle.neldermead.specs.declared.Fixed.{Fixed}
 use Rattle.neldermead.specs.declared.Simplex.{Simplex}
@@ -23,6 +27,10 @@ outcomeOf a = (replyOf (a .said) (a .next .n) (a .x) (a .g), a .next)
 abbrev pub noOptions : SimplexOptions
 noOptions = record { xtol = plusZero; ftol = plusZero; step = plusZero; restarts = 0; adaptive = false }
 
+abbrev pub noGradientOptions : GradientOptions
+noGradientOptions =
+    record { gradtol = plusZero; ftol = plusZero; xtol = plusZero; wolfe = record { c1 = plusZero; c2 = plusZero; stepmax = plusZero; evals = 0 }; memory = 0; gradients = false }
+
 abbrev pub noVertex : Vertex
 noVertex = record { x = replicate 16 plusZero; f = plusZero }
 
@@ -32,7 +40,7 @@ idleOf =
 
 -- the record of a refused start
 unfoldable pub blankOf : Record
-unfolding begunOf idleOf
+unfolding begunOf idleOf idleDescent
 blankOf =
     record {
       accepted = 0;
@@ -41,13 +49,18 @@ blankOf =
       counts = record { fevals = 0; gevals = 0 };
       limits = record { iter = 0; fevals = 0 };
       options = noOptions;
+      gradient = noGradientOptions;
       diff = begunOf (replicate 16 plusZero);
       simplex = idleOf;
+      descent = idleDescent;
     }
 
 -- the marks of the jobs
 abbrev pub simplexMark : ℕ
 simplexMark = 1
+
+abbrev pub searchMark : ℕ
+searchMark = 4
 
 abbrev pub differencesMark : ℕ
 differencesMark = 5
@@ -56,14 +69,17 @@ differencesMark = 5
 abbrev pub most : ℕ
 most = 40000000000
 
--- 2's limits, of allowances and of restarts
+-- 2's limits, of allowances, of restarts and of max_evals
 abbrev pub mostAllowed : ℕ
 mostAllowed = 1000000
 
 abbrev pub mostRestarts : ℕ
 mostRestarts = 100
 
--- the last phase with an open question, and the last of all
+abbrev pub mostEvals : ℕ
+mostEvals = 1000
+
+-- the last phase of a simplex fit with an open question, and the last of all
 abbrev pub lastAsking : ℕ
 lastAsking = 6
 
@@ -73,6 +89,10 @@ lastPhase = 11
 -- what the start of a simplex fit fixed
 abbrev pub fixedOf : Record → Fixed
 fixedOf r = record { n = r .n; options = r .options; iter = r .limits .iter; fevals = r .limits .fevals }
+
+-- what the start of a search fixed
+abbrev pub searchFixedOf : Record → linesearchFixed.Fixed
+searchFixedOf r = record { n = r .n; gradients = r .gradient .gradients; options = r .gradient .wolfe }
 
 -- of the simplex part: n 0, a position above n, an unknown mark, a count above 4·10^10, an option past 2's limits
 unfoldable pub validSimplexOf : Record → Bool
@@ -87,33 +107,50 @@ validSimplexOf r =
     (cond (ltb mostAllowed (r .limits .fevals)) false
     (leb (r .options .restarts) mostRestarts))))))))
 
+-- of the search part: n 0, an unknown mark, an option past 2's limits, a trial count above max_evals, a position above n
+unfoldable pub validSearchOf : Record → Bool
+validSearchOf r =
+    cond (eqb (r .n) 0) false
+    (cond (not (eqb (r .descent .phase) searching)) false
+    (cond (eqb (r .descent .search .phase) 0) false
+    (cond (ltb failed (r .descent .search .phase)) false
+    (cond (ltb mostEvals (r .gradient .wolfe .evals)) false
+    (cond (ltb (r .gradient .wolfe .evals) (r .descent .search .trials)) false
+    (leb (r .descent .search .diff .at) (r .n)))))))
+
 -- Refusal 1, for the parts that are there: "The record has n above 16 (or 0, other than for differences), a position above n, .. an option past 2's limits, an unknown mark
 -- or any count above 4·10^10." A part that the job does not use is not looked at.
 unfoldable pub validOf : Record → Bool
-unfolding validSimplexOf
+unfolding validSimplexOf validSearchOf
 validOf r =
     cond (ltb 16 (r .n)) false
     (cond (ltb most (r .accepted)) false
     (cond (ltb most (r .counts .fevals)) false
     (cond (ltb most (r .counts .gevals)) false
     (cond (eqb (r .job) simplexMark) (validSimplexOf r)
-    (cond (eqb (r .job) differencesMark) (leb (r .diff .at) (r .n)) false)))))
+    (cond (eqb (r .job) searchMark) (validSearchOf r)
+    (cond (eqb (r .job) differencesMark) (leb (r .diff .at) (r .n)) false))))))
+
+-- differences: neither of the jobs that are asked for first
+abbrev pub Other : Record → Type 0
+Other r = (r .job ≡ simplexMark → ⊥) × (r .job ≡ searchMark → ⊥)
 
 -- what the numbers of a valid record keep to
 pub record Ranges (r : Record) : Type 0 where
   pub few : r .n ≤ 16
   pub numbers : r .accepted ≤ most
   pub values : r .counts .fevals ≤ most
+  pub gradients : r .counts .gevals ≤ most
   pub some : r .job ≡ simplexMark → 0 < r .n
   pub vertex : r .job ≡ simplexMark → r .simplex .at ≤ r .n
-  pub coordinate : (r .job ≡ simplexMark → ⊥) → r .diff .at ≤ r .n
+  pub coordinate : Other r → r .diff .at ≤ r .n
 
 -- a question stands open, so that differences have a coordinate to come
 pub record Open (r : Record) : Type 0 where
-  pub next : (r .job ≡ simplexMark → ⊥) → r .diff .at < r .n
+  pub next : Other r → r .diff .at < r .n
 
 -- what the reply that stands asks of a record: the number of its question may be one above the counts' bound
 pub record Stands (r : Record) : Type 0 where
   pub few : r .n ≤ 16
   pub numbers : r .accepted ≤ most + 1
-  pub coordinate : (r .job ≡ simplexMark → ⊥) → r .diff .at ≤ r .n
+  pub coordinate : Other r → r .diff .at ≤ r .n

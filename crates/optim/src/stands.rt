@@ -2,16 +2,20 @@
 use crate::Answered;
 use crate::Record;
 use neldermead::Fixed;
+use protocol::Found;
 use protocol::Kind;
 use protocol::Said;
 use protocol::Summary;
 use protocol::Termination;
 ghost use mathlib.Core.Path.{_≡_};
 ghost use Prim.Native.Nat.{_≤_};
-ghost use Rattle.optim.specs.Record.{outcomeOf, fixedOf, Stands};
-ghost use Rattle.optim.specs.Answer.{overOf, terminationOf, asksOf, endsOf, standingSimplexOf, standingDifferencesOf, standingOf};
+ghost use Rattle.protocol.specs.Protocol.{ended, searched};
+ghost use Rattle.optim.specs.Record.{outcomeOf, fixedOf, searchFixedOf, Stands};
+ghost use Rattle.optim.specs.Answer.{overOf, gradientDueOf, terminationOf, asksOf, endsOf, searchResultOf, standingSimplexOf, standingSearchOf, standingDifferencesOf, standingOf};
 
 const SIMPLEX: u64 = 1;
+
+const SEARCH: u64 = 4;
 // The last phase of a simplex fit with an open question.
 const LAST_ASKING: u64 = 6;
 // The phases of one that has ended: SimplexTolerance, ObjectiveResolution, MaxIterations, MaxFevals
@@ -23,6 +27,12 @@ const RESOLUTION: u64 = 8;
 const ITERATIONS: u64 = 9;
 
 const NOT_FINITE: u64 = 11;
+// In a search: a gradient is asked for; the last phase with an open question; both conditions are met.
+const ASKS_GRADIENT: u64 = 2;
+
+const LAST_ASKING_SEARCH: u64 = 3;
+
+const FOUND: u64 = 4;
 
 // What the start of a simplex fit fixed.
 pub fn fixed(r: Record) -> Fixed
@@ -38,6 +48,19 @@ pub fn fixed(r: Record) -> Fixed
     }
 }
 
+// What the start of a search fixed.
+pub fn search_fixed(r: Record) -> linesearch::Fixed
+    ensures { λ f. ⌜ f ≡ searchFixedOf r ⌝ }
+{
+    let o = r.gradient;
+    let options = o.wolfe;
+    linesearch::Fixed {
+        n: r.n,
+        gradients: o.gradients,
+        options,
+    }
+}
+
 // Whether the job has ended.
 pub fn over(r: Record) -> bool
     ensures { λ b. ⌜ b ≡ overOf r ⌝ }
@@ -47,7 +70,22 @@ pub fn over(r: Record) -> bool
     if r.job == SIMPLEX {
         return LAST_ASKING < s.phase;
     }
+    if r.job == SEARCH {
+        let d = r.descent;
+        return LAST_ASKING_SEARCH < d.search.phase;
+    }
     diff.at == r.n
+}
+
+// Whether the open question is for a gradient.
+pub fn gradient_due(r: Record) -> bool
+    ensures { λ b. ⌜ b ≡ gradientDueOf r ⌝ }
+{
+    if r.job == SEARCH {
+        let d = r.descent;
+        return d.search.phase == ASKS_GRADIENT;
+    }
+    false
 }
 
 // The reason that a phase stands for.
@@ -66,14 +104,14 @@ fn termination(phase: u64) -> Termination
     Termination::MaxFevals
 }
 
-// The question for a value at x.
-fn asks(r: Record, x: [f64; 16]) -> Answered
+// The question of a kind at x.
+fn asks(r: Record, kind: Kind, x: [f64; 16]) -> Answered
     requires { ⌜ Stands r ⌝ }
-    ensures { λ a. ⌜ outcomeOf a ≡ asksOf r x ⌝ }
+    ensures { λ a. ⌜ outcomeOf a ≡ asksOf r kind x ⌝ }
 {
     let g = [0.0; 16];
     Answered {
-        said: Said::Ask(r.accepted + 1, Kind::Value),
+        said: Said::Ask(r.accepted + 1, kind),
         x,
         g,
         next: r,
@@ -114,12 +152,55 @@ fn standing_simplex(r: Record) -> Answered
     let s = r.simplex;
     let x = s.x;
     if s.phase <= LAST_ASKING {
-        return asks(r, x);
+        return asks(r, Kind::Value, x);
     }
     if s.phase == NOT_FINITE {
         return crate::refused(r, 20, 0);
     }
     ends(r)
+}
+
+// The outcome of a search.
+fn found(r: Record) -> Answered
+    ensures { λ a. ⌜ outcomeOf a ≡ (ended (searched (searchResultOf r)), r) ⌝ }
+{
+    let d = r.descent;
+    let s = d.search;
+    let best = s.best;
+    let trial = best.trial;
+    let x = best.x;
+    let g = best.g;
+    let outcome = Found {
+        success: s.phase == FOUND,
+        step: trial.step,
+        f: trial.value,
+        trials: s.trials,
+    };
+    Answered {
+        said: Said::Searched(outcome),
+        x,
+        g,
+        next: r,
+    }
+}
+
+// What stands in a search.
+fn standing_search(r: Record) -> Answered
+    requires { ⌜ Stands r ⌝ }
+    ensures { λ a. ⌜ outcomeOf a ≡ standingSearchOf r ⌝ }
+{
+    let d = r.descent;
+    let s = d.search;
+    let line = d.line;
+    if LAST_ASKING_SEARCH < s.phase {
+        return found(r);
+    }
+    let fixed = search_fixed(r);
+    let x = linesearch::probe(fixed, line, s);
+    if s.phase == ASKS_GRADIENT {
+        return asks(r, Kind::Gradient, x);
+    }
+    asks(r, Kind::Value, x)
 }
 
 // What stands in differences.
@@ -140,7 +221,7 @@ fn standing_differences(r: Record) -> Answered
         };
     }
     let x = objective::probe(diff);
-    asks(r, x)
+    asks(r, Kind::Value, x)
 }
 
 // The question or the outcome that stands.
@@ -150,6 +231,9 @@ pub fn standing(r: Record) -> Answered
 {
     if r.job == SIMPLEX {
         return standing_simplex(r);
+    }
+    if r.job == SEARCH {
+        return standing_search(r);
     }
     standing_differences(r)
 }

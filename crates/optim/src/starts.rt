@@ -1,18 +1,23 @@
-// The records of starts, and the refusals that a start of a simplex fit meets.
+// The records of starts, and the refusals that starts meet before their points are looked at.
 use crate::Counts;
 use crate::Limits;
 use crate::Record;
-use crate::Refusal;
+use linesearch::Line;
 use neldermead::Simplex;
 use neldermead::Vertex;
 use protocol::Allowance;
 use protocol::Allowances;
+use protocol::GradientOptions;
+use protocol::Refusal;
 use protocol::SimplexOptions;
+use protocol::WolfeOptions;
+use quasinewton::Descent;
 ghost use mathlib.Core.Path.{_≡_};
 ghost use Prim.Native.Nat.{_≤_};
 ghost use lib.ListN.{length};
-ghost use Rattle.optim.specs.Record.{idleOf, blankOf, noOptions};
-ghost use Rattle.optim.specs.Start.{begunRecordOf, excessOf, pastLimitsOf, toleranceOf, positiveOf, refusal, startRefusalOf, limitOf, limitsOf, simplexRecordOf};
+ghost use Rattle.optim.specs.Record.{idleOf, blankOf, noOptions, noGradientOptions};
+ghost use Rattle.optim.specs.Start.{begunRecordOf, excessOf, pastLimitsOf, startRefusalOf, limitOf, limitsOf, simplexRecordOf, searchPastLimitsOf, searchRefusalOf, searchOptionsOf, begunSearchOf, searchRecordOf};
+ghost use Rattle.protocol.specs.Protocol.{refusal};
 
 // The simplex part of a record that does not use it.
 fn idle() -> Simplex
@@ -46,6 +51,18 @@ fn no_options() -> SimplexOptions
     }
 }
 
+fn no_gradient_options() -> GradientOptions
+    ensures { λ r. ⌜ r ≡ noGradientOptions ⌝ }
+{
+    let wolfe = WolfeOptions {
+        c1: 0.0,
+        c2: 0.0,
+        stepmax: 0.0,
+        evals: 0,
+    };
+    search_options(wolfe, false)
+}
+
 // The record of a refused start: all zeros, with a mark that no job has.
 pub fn blank() -> Record
     ensures { λ r. ⌜ r ≡ blankOf ⌝ }
@@ -53,6 +70,8 @@ pub fn blank() -> Record
     let diff = objective::begun([0.0; 16]);
     let simplex = idle();
     let options = no_options();
+    let gradient = no_gradient_options();
+    let descent = quasinewton::idle();
     Record {
         accepted: 0,
         job: 0,
@@ -63,8 +82,10 @@ pub fn blank() -> Record
         },
         limits: Limits { iter: 0, fevals: 0 },
         options,
+        gradient,
         diff,
         simplex,
+        descent,
     }
 }
 
@@ -78,6 +99,8 @@ pub fn begun_record(x: &[f64]) -> Record
     let diff = objective::begun(point);
     let simplex = idle();
     let options = no_options();
+    let gradient = no_gradient_options();
+    let descent = quasinewton::idle();
     Record {
         accepted: 0,
         job: 5,
@@ -88,8 +111,10 @@ pub fn begun_record(x: &[f64]) -> Record
         },
         limits: Limits { iter: 0, fevals: 0 },
         options,
+        gradient,
         diff,
         simplex,
+        descent,
     }
 }
 
@@ -119,25 +144,6 @@ fn past_limits(count: usize, o: SimplexOptions, a: Allowances) -> bool
     100 < o.restarts
 }
 
-// Neither negative nor not finite.
-fn tolerance(t: f64) -> bool
-    ensures { λ b. ⌜ b ≡ toleranceOf t ⌝ }
-{
-    if 0.0 <= t {
-        return float::is_finite(t);
-    }
-    false
-}
-
-fn positive(t: f64) -> bool
-    ensures { λ b. ⌜ b ≡ positiveOf t ⌝ }
-{
-    if 0.0 < t {
-        return float::is_finite(t);
-    }
-    false
-}
-
 fn refuse(number: u64, detail: u64) -> Refusal
     ensures { λ r. ⌜ r ≡ refusal number detail ⌝ }
 {
@@ -151,13 +157,13 @@ pub fn start_refusal(count: usize, o: SimplexOptions, a: Allowances) -> Refusal
     if past_limits(count, o, a) {
         return refuse(2, 0);
     }
-    if !tolerance(o.xtol) {
+    if !float::tolerance(o.xtol) {
         return refuse(4, 1);
     }
-    if !tolerance(o.ftol) {
+    if !float::tolerance(o.ftol) {
         return refuse(4, 2);
     }
-    if !positive(o.step) {
+    if !float::positive(o.step) {
         return refuse(8, 0);
     }
     if count == 0 {
@@ -197,6 +203,8 @@ pub fn simplex_record(point: [f64; 16], n: usize, o: SimplexOptions, a: Allowanc
     let both = limits(n, o, a);
     let simplex = neldermead::start(point);
     let diff = objective::begun([0.0; 16]);
+    let gradient = no_gradient_options();
+    let descent = quasinewton::idle();
     Record {
         accepted: 0,
         job: 1,
@@ -207,7 +215,102 @@ pub fn simplex_record(point: [f64; 16], n: usize, o: SimplexOptions, a: Allowanc
         },
         limits: both,
         options: o,
+        gradient,
         diff,
         simplex,
+        descent,
+    }
+}
+
+// Refusal 2 of a search.
+fn search_past_limits(n: usize, dcount: usize, gcount: usize, o: WolfeOptions) -> bool
+    ensures { λ b. ⌜ b ≡ searchPastLimitsOf n dcount gcount o ⌝ }
+{
+    if 16 < n {
+        return true;
+    }
+    if 16 < dcount {
+        return true;
+    }
+    if 16 < gcount {
+        return true;
+    }
+    1_000 < o.evals
+}
+
+// The refusal that a search from a point of n coordinates meets, before its points are looked at.
+pub fn search_refusal(n: usize, dcount: usize, gcount: usize, o: WolfeOptions) -> Refusal
+    ensures { λ r. ⌜ r ≡ searchRefusalOf n dcount gcount o ⌝ }
+{
+    if search_past_limits(n, dcount, gcount, o) {
+        return refuse(2, 0);
+    }
+    let why = linesearch::options_refusal(o);
+    if why.number != 0 {
+        return why;
+    }
+    linesearch::counts_refusal(n, dcount, gcount)
+}
+
+// The options that a search's record keeps.
+fn search_options(wolfe: WolfeOptions, gradients: bool) -> GradientOptions
+    ensures { λ r. ⌜ r ≡ searchOptionsOf wolfe gradients ⌝ }
+{
+    GradientOptions {
+        gradtol: 0.0,
+        ftol: 0.0,
+        xtol: 0.0,
+        wolfe,
+        memory: 0,
+        gradients,
+    }
+}
+
+// A search along the line, from its first trial on.
+fn begun_search(line: Line, n: usize, step: f64, o: WolfeOptions, gradients: bool) -> Descent
+    ensures { λ r. ⌜ r ≡ begunSearchOf line n step o gradients ⌝ }
+{
+    let fixed = linesearch::Fixed {
+        n,
+        gradients,
+        options: o,
+    };
+    let search = linesearch::begun(fixed, line, step);
+    let diff = objective::begun([0.0; 16]);
+    Descent {
+        phase: 4,
+        number: 0,
+        detail: 0,
+        first: false,
+        rounds: 0,
+        line,
+        search,
+        diff,
+    }
+}
+
+// The first record of a search along a line of n coordinates.
+pub fn search_record(line: Line, n: usize, step: f64, o: WolfeOptions, gradients: bool) -> Record
+    ensures { λ r. ⌜ r ≡ searchRecordOf line n step o gradients ⌝ }
+{
+    let descent = begun_search(line, n, step, o, gradients);
+    let diff = objective::begun([0.0; 16]);
+    let simplex = idle();
+    let options = no_options();
+    let gradient = search_options(o, gradients);
+    Record {
+        accepted: 0,
+        job: 4,
+        n,
+        counts: Counts {
+            fevals: 0,
+            gevals: 0,
+        },
+        limits: Limits { iter: 0, fevals: 0 },
+        options,
+        gradient,
+        diff,
+        simplex,
+        descent,
     }
 }

@@ -1,9 +1,13 @@
 // The gradient fits bfgs and lbfgs of quasinewton.rs, one answer at a time.
 use hessian::Model;
+use linesearch::Evaluation;
 use linesearch::Line;
 use linesearch::Search;
+use linesearch::Trial;
 use objective::Differences;
 use protocol::GradientOptions;
+ghost use mathlib.Core.Path.{_≡_};
+ghost use Rattle.quasinewton.specs.Step.{idleOf};
 
 // What the start fixes. The allowances are numbers: an absent max_iter is its default, an absent
 // max_fevals the largest u64, which no count reaches.
@@ -33,4 +37,52 @@ pub struct Descent {
 pub struct Settled {
     pub descent: Descent,
     pub model: Model,
+}
+
+// Before any part is in use.
+pub fn idle() -> Descent
+    ensures { λ r. ⌜ r ≡ idleOf ⌝ }
+{
+    let none = [0.0; 16];
+    let diff = objective::begun(none);
+    let trial = Trial {
+        step: 0.0,
+        value: 0.0,
+        slope: 0.0,
+    };
+    let best = Evaluation {
+        trial,
+        x: none,
+        g: none,
+    };
+    let search = Search {
+        phase: 1,
+        zooming: false,
+        trials: 0,
+        previous: false,
+        lo: trial,
+        hi: trial,
+        step: 0.0,
+        value: 0.0,
+        kept: false,
+        best,
+        diff,
+    };
+    let line = Line {
+        x: none,
+        g: none,
+        d: none,
+        f: 0.0,
+        slope: 0.0,
+    };
+    Descent {
+        phase: 0,
+        number: 0,
+        detail: 0,
+        first: false,
+        rounds: 0,
+        line,
+        search,
+        diff,
+    }
 }

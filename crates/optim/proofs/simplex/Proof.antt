@@ -5,7 +5,7 @@ use Rattle.optim.specs.Start.{simplexOf}
 use mathlib.Core.Path.{sym, ap, _∙_, subst}
 use native.Mathlib.Nat.{le-refl}
 use lib.ListN.{length}
-use Rattle.optim.specs.declared.Refusal.{Refusal}
+use Rattle.protocol.specs.declared.Refusal.{Refusal}
 use Rattle.optim.specs.Record.{Stands}
 use Rattle.optim.proofs.Ranges.{start-limits, simplex-stands}
 use Rattle.optim.proofs.simplex.Statement.{statement}

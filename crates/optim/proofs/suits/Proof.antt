@@ -1,4 +1,5 @@
 -- `optim::suits` meets its contract: each return follows the calls and tests that led to it. Assumes nothing.
+use borrow.Author.Needs.{needs}
 use borrow.Author.Tests.{eq-eqb, ne-eqb}
 use Rattle.optim.specs.Answer.{suitsOf}
 use Rattle.optim.proofs.suits.Statement.{statement}
@@ -9,5 +10,8 @@ unfolding suitsOf
 suits-spec =
     tie.close
     (tie.spec
-    (λ c. rw (ne-eqb _ _ (c .if1 .taken)))
-    (λ c. rw (eq-eqb _ _ (c .if1 .left))))
+    (λ c κs. search needs)
+    (λ c. rw (← c .before .before .gradient-due .ensures, c .before .if1 .taken, ne-eqb _ _ (c .if2 .taken)))
+    (λ c. rw (← c .before .before .before .gradient-due .ensures, c .before .before .if1 .taken, eq-eqb _ _ (c .before .if2 .left)))
+    (λ c. rw (← c .before .before .gradient-due .ensures, c .before .if1 .left, ne-eqb _ _ (c .if3 .taken)))
+    (λ c. rw (← c .before .before .gradient-due .ensures, c .before .if1 .left, eq-eqb _ _ (c .if3 .left))))

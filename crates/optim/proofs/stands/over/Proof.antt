@@ -10,4 +10,5 @@ over-spec =
     tie.close
     (tie.spec
     (λ c. rw (eq-eqb _ _ (c .before .if1 .taken)))
-    (λ c. rw (ne-eqb _ _ (c .before .before .if1 .left))))
+    (λ c. rw (ne-eqb _ _ (c .before .before .before .before .if1 .left), eq-eqb _ _ (c .before .before .if2 .taken)))
+    (λ c. rw (ne-eqb _ _ (c .before .before .before .before .if1 .left), ne-eqb _ _ (c .before .before .if2 .left))))

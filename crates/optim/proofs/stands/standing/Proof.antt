@@ -12,5 +12,7 @@ standing-spec =
     (tie.spec
     (λ c κs. search needs)
     (λ c. rw (← c .standing-simplex .ensures, eq-eqb _ _ (c .before .if1 .taken)))
-    (λ c κs. (c .before .before .pre, c .before .before .pre .coordinate (c .if1 .left)))
-    (λ c. rw (← c .standing-differences .ensures, ne-eqb _ _ (c .before .if1 .left))))
+    (λ c κs. search needs)
+    (λ c. rw (← c .standing-search .ensures, ne-eqb _ _ (c .before .before .before .if1 .left), eq-eqb _ _ (c .before .if2 .taken)))
+    (λ c κs. (c .before .before .before .before .pre, c .before .before .before .before .pre .coordinate (c .before .before .if1 .left, c .if2 .left)))
+    (λ c. rw (← c .standing-differences .ensures, ne-eqb _ _ (c .before .before .before .if1 .left), ne-eqb _ _ (c .before .if2 .left))))

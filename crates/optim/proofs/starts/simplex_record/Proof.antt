@@ -13,4 +13,6 @@ simplex-record-spec =
     (λ c κs. search needs)
     (λ c κs. search needs)
     (λ c κs. search needs)
-    (λ c. rw (← c .before .before .limits .ensures, ← c .before .start .ensures, ← c .begun .ensures)))
+    (λ c κs. search needs)
+    (λ c κs. search needs)
+    (λ c. rw (← c .before .before .before .before .limits .ensures, ← c .before .before .before .start .ensures, ← c .before .before .begun .ensures, ← c .before .no-gradient-options .ensures, ← c .idle .ensures)))
