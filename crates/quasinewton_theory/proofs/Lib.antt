@@ -1,0 +1,3 @@
+pub mod FirstStep
+pub mod Steepest
+pub mod Directions
