@@ -1,3 +1,6 @@
 pub mod FirstStep
 pub mod Steepest
 pub mod Directions
+pub mod SearchLong
+pub mod LawsSearch
+pub mod Laws
