@@ -1,5 +1,5 @@
 -- The first step of a search in a fit is above zero and finite (`first-step-positive`), so that 13 is never met: 1 over the largest magnitude of finite f64s does not round to
--- zero. Assumes nothing.
+-- zero. Nor is it above 1. Assumes nothing.
 use Prim.Native.Nat.{ℕ, zero, suc, _*_, _^_, _%_, _≤_, _<_}
 use native.Mathlib.Nat.{zero-mul, mul-pos, mul-comm}
 use native.Mathlib.Omega.{arith}
@@ -9,19 +9,22 @@ use mathlib.Core.List.{List, [], _∷_, foldl}
 use lib.Pow.{pow-pos}
 use lib.IntN.{ℤ, pos, negsuc}
 use lib.Dec.{T, ltb, lt→ltb, ltb→lt, eqb, eqb→eq, leb}
-use lib.Ieee.{Float, nan, inf, fin, binary64, round, up, down, div, lt, fits, isNan, ofBits}
+use lib.Ieee.{Float, nan, inf, fin, binary64, round, up, down, div, lt, le, fits, isNan, ofBits}
 use lib.Ieee.Bits.{ofBits-fits, cond-no}
 use lib.Ieee.Fits.{up-pos, down-pos, and-r}
 use lib.Ieee.Order.{round-mono}
 use lib.Ieee.Positive.{positive, above, above-of-le}
-use Rattle.float.specs.Binary64.{F64, _⊘_, bits, plusZero}
+use Rattle.float.specs.Binary64.{F64, Number, _⊘_, bits, plusZero}
 use Rattle.float.specs.Values.{Finite, finiteOf, positiveOf, absOf, maxOf, minOf}
-use Rattle.float.proofs.Closed.{closed}
+use Rattle.float.proofs.Order.{not-lt→le}
 use Rattle.vector.specs.Lists.{infNorm, allFinite}
 use Rattle.protocol.specs.Claim.{F64s}
-use Rattle.protocol.proofs.Replies.{true-T, and-left}
+use Rattle.protocol.proofs.Replies.{true-T, and-left, not-above-self}
 use Rattle.hessian.specs.Algorithm.{one}
 use Rattle.quasinewton_theory.specs.Algorithm.{initialStep}
+
+false-T : (b : Bool) → b ≡ false → T (not b)
+false-T b e = rw e tt
 
 -- ---- all of a list finite
 
@@ -184,3 +187,23 @@ first-step-positive true d w f =
     let p : T (positive m) = subst (λ (z : Float). T (positive (maxOf (infNorm d) z))) (sym tiny-is) (positive-max (infNorm d) 178405961588245 (negsuc 146) h tt) in
     let i : T (above (fin false 1 (pos 0) ⊘ m)) = inverse-above m (plain-f64 m (plain-max (infNorm d) (bits 0x39b4_484b_feeb_c2a0) h tiny-plain)) p in
     subst (λ (o : Float). positiveOf (minOf (o ⊘ m) o) ≡ true) (sym one-is) (capped (fin false 1 (pos 0) ⊘ m) i)
+
+number-one : Number one
+number-one = rw one-is (unfold isNan in tt)
+
+at-most-one : (q : Float) → T (le (minOf q one) one)
+unfolding minOf
+at-most-one q = go (isNan q) (lt one q) refl refl
+  where
+    self : T (le one one)
+    self = not-lt→le one one number-one number-one (not-above-self one)
+
+    go : (a b : Bool) → isNan q ≡ a → lt one q ≡ b → T (le (cond a one (cond b one q)) one)
+    go true b i j = self
+    go false true i j = self
+    go false false i j = not-lt→le one q number-one (false-T (isNan q) i) (false-T (lt one q) j)
+
+pub first-step-at-most-one : (first : Bool) (d : List Float) → T (le (initialStep first d) one)
+unfolding initialStep
+first-step-at-most-one false d = not-lt→le one one number-one number-one (not-above-self one)
+first-step-at-most-one true d = at-most-one (one ⊘ maxOf (infNorm d) (bits 0x39b4_484b_feeb_c2a0))

@@ -32,8 +32,8 @@ use Rattle.linesearch_theory.specs.Laws.{ValueTold, Heard}
 use Rattle.linesearch_theory.proofs.LawsTold.{told-grows, heard-finite}
 use Rattle.linesearch_theory.proofs.Laws.{search-laws}
 use Rattle.quasinewton_theory.specs.Algorithm.{Position, movedTo, stored, stepped, smallDecrease, smallStep, stopsLower, succeeded, concluded, initialStep, searched, notDescending, directed, iterated, round, tests, withGradient, withValue, opened, opening, quasiNewton}
-use Rattle.quasinewton_theory.specs.Laws.{Shaped, AtHead, SearchRefusal, FirstRefusal, FailsBy, GradientLaws, RefusalLaws}
-use Rattle.quasinewton_theory.proofs.FirstStep.{first-step-positive}
+use Rattle.quasinewton_theory.specs.Laws.{Shaped, AtHead, Failed, NotWorse, Improves, FailureLaw, SearchRefusal, FirstRefusal, FailsBy, GradientLaws, RefusalLaws}
+use Rattle.quasinewton_theory.proofs.FirstStep.{first-step-positive, first-step-at-most-one}
 use Rattle.quasinewton_theory.proofs.Steepest.{steepest-descends, negation-finite}
 use Rattle.quasinewton_theory.proofs.Directions.{zip-long, negation-long, negation-f64s, directions}
 use Rattle.quasinewton_theory.proofs.SearchLong.{gradient-long}
@@ -62,10 +62,11 @@ or-right false b e = e
 abbrev Lower : Float → List Exchange → List Float → Float → Type 0
 Lower v es x f = ValueTold es x f × NotAbove f v
 
-abbrev End : Float → List Exchange → Ending Position → Type 0
-End v es (atHead p) = AtHead es p × NotAbove (p .f) v
-End v es (stops y p) = Lower v es (p .x) (p .f) × Own y
-End v es (fails k d) = SearchRefusal k d
+-- of a round that was begun at p
+abbrev End : Position → List Exchange → Ending Position → Type 0
+End p es (atHead q) = AtHead es q × NotAbove (q .f) (p .f)
+End p es (stops y q) = Lower (p .f) es (q .x) (q .f) × Own y × (Failed y → NotWorse p q)
+End p es (fails k d) = SearchRefusal k d
 
 known : (es : List Exchange) (x : List Float) (f : Float) → ValueTold es x f → Known ⊥ es x f
 known es x f h = (h .0, h .2, λ no. absurd no)
@@ -75,10 +76,10 @@ ends-fit k d (inl i) = rw (i .0, i .1) tt
 ends-fit k d (inr (inl i)) = rw (i .0, i .1) tt
 ends-fit k d (inr (inr i)) = rw (i .0, i .1) tt
 
-ends : (s : Start) (v : Float) (es : List Exchange) (e : Ending Position) → End v es e → Ends quasiNewton Least At s v es e
-ends s v es (atHead p) h = h
-ends s v es (stops y p) h = (known es (p .x) (p .f) (h .0 .0), h .0 .1, h .1)
-ends s v es (fails k d) h = ends-fit k d h
+ends : (s : Start) (p : Position) (es : List Exchange) (e : Ending Position) → End p es e → Ends quasiNewton Least At s (p .f) es e
+ends s p es (atHead q) h = h
+ends s p es (stops y q) h = (known es (q .x) (q .f) (h .0 .0), h .0 .1, h .1)
+ends s p es (fails k d) h = ends-fit k d h
 
 -- ---- after a search
 
@@ -98,9 +99,9 @@ module _ (es : List Exchange) (p : Position) (d : List Float) (a : AtHead es p) 
     same : Lower (p .f) fs (p .x) (p .f)
     same = (told-grows es fs (p .x) (p .f) (h .grows) (a .value-told), not-above-self (p .f))
 
-    stops-lower : (why : Termination) (b : Bool) → Own why → End (p .f) fs (stopsLower why p t b)
-    stops-lower why true o = (lower, o)
-    stops-lower why false o = (same, o)
+    stops-lower : (why : Termination) (b : Bool) → Own why → (b ≡ true → T (lt (t .trial .value) (p .f))) → End p fs (stopsLower why p t b)
+    stops-lower why true o k = (lower, o, λ i. inr (k refl))
+    stops-lower why false o k = (same, o, λ i. inl (refl, refl))
 
     stepped-head : allFinite (t .g) ≡ true → AtHead fs (stepped p t)
     unfolding stepped difference
@@ -119,31 +120,33 @@ module _ (es : List Exchange) (p : Position) (d : List Float) (a : AtHead es p) 
           wolfe = a .wolfe;
         }
 
-    succeeded-ok : End (p .f) fs (succeeded p t)
+    succeeded-ok : End p fs (succeeded p t)
     unfolding stepped
     succeeded-ok = go (allFinite (t .g)) (smallDecrease (p .options .ftol) (p .f) (t .trial .value)) (smallStep (p .options .xtol) (p .x) (t .x)) refl
       where
         go : (b c e : Bool) → allFinite (t .g) ≡ b
-            → End (p .f) fs (cond (not b) (stopsLower GradientFailed p t (lt (t .trial .value) (p .f)))
+            → End p fs (cond (not b) (stopsLower GradientFailed p t (lt (t .trial .value) (p .f)))
             (cond c (stops FunctionTolerance (stepped p t)) (cond e (stops StepTolerance (stepped p t)) (atHead (stepped p t)))))
-        go false c e i = stops-lower GradientFailed (lt (t .trial .value) (p .f)) (λ n. n)
-        go true true e i = (lower, λ n. n)
-        go true false true i = (lower, λ n. n)
+        go false c e i = stops-lower GradientFailed (lt (t .trial .value) (p .f)) (λ n. n) (true-T (lt (t .trial .value) (p .f)))
+        go true true e i = (lower, (λ n. n), λ n. absurd n)
+        go true false true i = (lower, (λ n. n), λ n. absurd n)
         go true false false i = (stepped-head i, lower .1)
 
-  concluded-ok : (fs : List Exchange) (r : WolfeResult) → Found es p d a s fs (r .at) → End (p .f) fs (concluded p (gives r))
+  concluded-ok : (fs : List Exchange) (r : WolfeResult) → Found es p d a s fs (r .at) → End p fs (concluded p (gives r))
   concluded-ok fs r h = go (r .success)
     where
-      go : (b : Bool) → End (p .f) fs (cond b (succeeded p (r .at)) (stopsLower LineSearchFailed p (r .at) (lt plusZero (r .at .trial .step) && lt (r .at .trial .value) (p .f))))
+      go : (b : Bool) → End p fs (cond b (succeeded p (r .at)) (stopsLower LineSearchFailed p (r .at) (lt plusZero (r .at .trial .step) && lt (r .at .trial .value) (p .f))))
       go true = succeeded-ok fs (r .at) h
-      go false = stops-lower fs (r .at) h LineSearchFailed (lt plusZero (r .at .trial .step) && lt (r .at .trial .value) (p .f)) (λ n. n)
+      go false =
+          let less = lt (r .at .trial .value) (p .f) in
+          stops-lower fs (r .at) h LineSearchFailed (lt plusZero (r .at .trial .step) && less) (λ n. n) (λ i. true-T less (and-right (lt plusZero (r .at .trial .step)) less i))
 
-  searched-ok : wp es (searched p d) (End (p .f))
+  searched-ok : wp es (searched p d) (End p)
   searched-ok =
-      searched-case es p d a s (λ m. wp es m (End (p .f))) (λ k e r. r)
+      searched-case es p d a s (λ m. wp es m (End p)) (λ k e r. r)
       (λ some e. let m = text es p d a s in
-      wp-bind es m (λ r. finish (concluded p (gives r))) (End (p .f))
-      (wp-map es m (λ fs r. Found es p d a s fs (r .at)) (λ fs r. End (p .f) fs (concluded p (gives r))) concluded-ok (found es p d a s e)))
+      wp-bind es m (λ r. finish (concluded p (gives r))) (End p)
+      (wp-map es m (λ fs r. Found es p d a s fs (r .at)) (λ fs r. End p fs (concluded p (gives r))) concluded-ok (found es p d a s e)))
 
   searched-begins : Begins (searched p d)
   searched-begins =
@@ -198,14 +201,21 @@ round-case P es p a h k =
           slope = or-left (le plusZero (dot (p .g) d)) (not (finiteOf (dot (p .g) d))) (or-left (notDescending (dot (p .g) d)) (not (allFinite d)) i);
         })
 
-round-ends : (es : List Exchange) (p : Position) → AtHead es p → wp es (round p) (End (p .f))
+-- counting the iteration changes neither point nor value
+iterated-ends : (p : Position) (es : List Exchange) (e : Ending Position) → End (iterated p) es e → End p es e
+iterated-ends p es (atHead q) h = h
+iterated-ends p es (stops y q) h = h
+iterated-ends p es (fails k d) h = h
+
+round-ends : (es : List Exchange) (p : Position) → AtHead es p → wp es (round p) (End p)
 round-ends es p a =
-    round-case (λ m. wp es m (End (p .f))) es p a ((a .value-told, not-above-self (p .f)), λ n. n) (λ d s. searched-ok es (iterated p) d (iterated-head es p a) s)
+    round-case (λ m. wp es m (End p)) es p a ((a .value-told, not-above-self (p .f)), (λ n. n), λ i. inl (refl, refl)) 
+    (λ d s. wp-map es (searched (iterated p) d) (End (iterated p)) (End p) (iterated-ends p) (searched-ok es (iterated p) d (iterated-head es p a) s))
 
 round-law : (s : Start) (es : List Exchange) (p : Position) → AtHead es p → Begins (round p) × wp es (round p) (Ends quasiNewton Least At s (p .f))
 round-law s es p a = (
   round-case Begins es p a tt (λ d i. searched-begins es (iterated p) d (iterated-head es p a) i),
-  wp-map es (round p) (End (p .f)) (Ends quasiNewton Least At s (p .f)) (ends s (p .f)) (round-ends es p a),
+  wp-map es (round p) (End p) (Ends quasiNewton Least At s (p .f)) (ends s p) (round-ends es p a),
 )
 
 -- ---- the opening
@@ -303,15 +313,23 @@ laws =
       round-ok = round-law;
     }
 
--- ---- refusals
+-- ---- failed searches, and refusals
 
-fails-by : (P : ℕ → ℕ → Type 0) → ((k d : ℕ) → SearchRefusal k d → P k d) → (v : Float) (es : List Exchange) (e : Ending Position) → End v es e → FailsBy P es e
-fails-by P f v es (atHead p) h = tt
-fails-by P f v es (stops y p) h = tt
-fails-by P f v es (fails k d) h = f k d h
+pub failures : FailureLaw
+failures es p a = wp-map es (round p) (End p) (Improves p) improves (round-ends es p a)
+  where
+    improves : (fs : List Exchange) (e : Ending Position) → End p fs e → Improves p fs e
+    improves fs (atHead q) h = tt
+    improves fs (stops y q) h = h .2
+    improves fs (fails k d) h = tt
+
+fails-by : (P : ℕ → ℕ → Type 0) → ((k d : ℕ) → SearchRefusal k d → P k d) → (p : Position) (es : List Exchange) (e : Ending Position) → End p es e → FailsBy P es e
+fails-by P f p es (atHead q) h = tt
+fails-by P f p es (stops y q) h = tt
+fails-by P f p es (fails k d) h = f k d h
 
 in-rounds : (P : ℕ → ℕ → Type 0) → ((k d : ℕ) → SearchRefusal k d → P k d) → (es : List Exchange) (p : Position) → AtHead es p → wp es (round p) (FailsBy P)
-in-rounds P f es p a = wp-map es (round p) (End (p .f)) (FailsBy P) (fails-by P f (p .f)) (round-ends es p a)
+in-rounds P f es p a = wp-map es (round p) (End p) (FailsBy P) (fails-by P f p) (round-ends es p a)
 
 never : (n : ℕ) → (6 ≡ n → ⊥) → (7 ≡ n → ⊥) → (12 ≡ n → ⊥) → (k d : ℕ) → SearchRefusal k d → k ≡ n → ⊥
 never n a b c k d (inl i) e = a (sym (i .0) ∙ e)
@@ -324,6 +342,7 @@ refusals =
       in-rounds = in-rounds SearchRefusal (λ k d h. h);
       in-opening = λ limits o x. opened-case (FailsBy FirstRefusal) limits o x (λ fs. inl (refl, refl)) (λ fs. inr (refl, refl)) (λ fs v g t w l e. tt);
       first-step-positive = first-step-positive;
+      first-step-at-most-one = first-step-at-most-one;
       never-13 = in-rounds (λ k d. k ≡ 13 → ⊥) (never 13 (λ e. omega arith) (λ e. omega arith) (λ e. omega arith));
       steepest-descends = steepest;
       never-14 = in-rounds (λ k d. k ≡ 14 → ⊥) (never 14 (λ e. omega arith) (λ e. omega arith) (λ e. omega arith));

@@ -4,12 +4,15 @@ use mathlib.Core.Path.{_≡_}
 use mathlib.Core.Logic.{_⊎_}
 use mathlib.Core.Bool.{Bool, true, false, _&&_}
 use mathlib.Core.List.{List, [], _∷_}
+use lib.Dec.{T}
 use lib.ListN.{length}
 use lib.Ieee.{Float, neg, lt, le}
 use Rattle.float.specs.Binary64.{plusZero}
 use Rattle.float.specs.Values.{positiveOf}
 use Rattle.vector.specs.Lists.{dot, allFinite, negation}
 use Rattle.protocol.specs.declared.GradientOptions.{GradientOptions}
+use Rattle.protocol.specs.declared.Termination.{Termination}
+use Rattle.protocol.specs.declared.Termination.the-variants.{GradientTolerance, SimplexTolerance, StepTolerance, FunctionTolerance, MaxIterations, MaxFevals, LineSearchFailed, GradientFailed, ObjectiveResolution}
 use Rattle.protocol.specs.Claim.{Exchange, F64s}
 use Rattle.protocol.specs.Ask.{wp}
 use Rattle.protocol.specs.Rounds.{Ending, atHead, stops, fails}
@@ -54,6 +57,33 @@ pub record AtHead (es : List Exchange) (p : Position) : Type 0 where
 abbrev pub GradientLaws : Type 1
 GradientLaws = RoundsLaws quasiNewton (λ s. ⊥)
 
+-- ---- a failed search
+
+abbrev pub Failed : Termination → Type 0
+Failed GradientTolerance = ⊥
+Failed SimplexTolerance = ⊥
+Failed StepTolerance = ⊥
+Failed FunctionTolerance = ⊥
+Failed MaxIterations = ⊥
+Failed MaxFevals = ⊥
+Failed LineSearchFailed = Unit {0}
+Failed GradientFailed = Unit {0}
+Failed ObjectiveResolution = ⊥
+
+-- q has the point and the value of p, or a lower value
+abbrev pub NotWorse : Position → Position → Type 0
+NotWorse p q = ((q .x ≡ p .x) × (q .f ≡ p .f)) ⊎ T (lt (q .f) (p .f))
+
+-- "keep any improvement, then stop"
+abbrev pub Improves : Position → List Exchange → Ending Position → Type 0
+Improves p es (atHead q) = Unit {0}
+Improves p es (stops y q) = Failed y → NotWorse p q
+Improves p es (fails k d) = Unit {0}
+
+-- where a search or its gradient fails, the fit stops at the point where the round began, or at a lower one
+abbrev pub FailureLaw : Type 0
+FailureLaw = (es : List Exchange) (p : Position) → AtHead es p → wp es (round p) (Improves p)
+
 -- ---- which refusals end a gradient fit
 
 -- 6: max_evals is 0; 7: step_max is not positive and finite; 12 with detail 1: x is not finite
@@ -76,6 +106,8 @@ pub record RefusalLaws : Type 0 where
   pub in-opening : (limits : Bool) (o : GradientOptions) (x : List Float) → wp [] (opened limits o x) (FailsBy FirstRefusal)
   -- 13 is never met, since the first step is positive and finite
   pub first-step-positive : (first : Bool) (d : List Float) → F64s d → allFinite d ≡ true → positiveOf (initialStep first d) ≡ true
+  -- 01: "First step min(1/max(|d|, 1e-30), 1)"
+  pub first-step-at-most-one : (first : Bool) (d : List Float) → T (le (initialStep first d) one)
   pub never-13 : (es : List Exchange) (p : Position) → AtHead es p → wp es (round p) (FailsBy (λ k d. k ≡ 13 → ⊥))
   -- 14 is never met, since the direction was tested, or else minus the gradient was and descends
   pub steepest-descends : (g : List Float) → notDescending (neg (dot g g)) ≡ false → le plusZero (dot g (negation g)) ≡ false
