@@ -4,3 +4,4 @@ pub mod Directions
 pub mod SearchLong
 pub mod LawsSearch
 pub mod Laws
+pub mod Counts
