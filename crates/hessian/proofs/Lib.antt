@@ -2,3 +2,5 @@ pub mod Loops
 pub mod Places
 pub mod TiesDense
 pub mod TiesLimited
+pub mod Ties
+pub mod Words
