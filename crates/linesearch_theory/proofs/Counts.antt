@@ -1,8 +1,7 @@
 -- What the search asks at most, of a kind: so much a trial, times max_evals (`counts`). Assumes nothing.
 use Prim.Native.Nat.{ℕ, zero, suc, _+_, _*_, _≤_, zero-le, suc-le-suc}
-use native.Mathlib.Nat.{le-trans, le-of-eq, mul-le-mul-left, suc-mul, mul-one, mul-zero}
+use native.Mathlib.Nat.{le-trans, suc-mul, mul-zero}
 use native.Mathlib.Omega.{arith}
-use mathlib.Core.Path.{_≡_, refl, sym, subst}
 use mathlib.Core.Option.{Option, none, some}
 use mathlib.Core.List.{List, [], _∷_, _++_, map, zipWith}
 use mathlib.Core.Bool.{Bool, true, false, cond}

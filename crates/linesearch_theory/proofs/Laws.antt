@@ -1,13 +1,13 @@
 -- The laws of the search: `search-laws`. Assumes nothing.
 use Prim.Native.Nat.{ℕ, zero, suc, _≤_}
-use mathlib.Core.Path.{_≡_, refl, sym, ap, subst}
+use mathlib.Core.Path.{_≡_, refl, sym, subst}
 use mathlib.Core.Logic.{_⊎_, inl, inr, ⊎-elim}
 use mathlib.Core.Option.{none}
 use mathlib.Core.List.{List}
 use mathlib.Core.Bool.{Bool, true, false}
 use lib.Dec.{T}
 use lib.Ieee.{Float, nan, inf, fin, lt, le}
-use Rattle.float.specs.Binary64.{F64, plusZero, _⊗_}
+use Rattle.float.specs.Binary64.{plusZero, _⊗_}
 use Rattle.float.specs.Values.{Finite, finiteOf, minOf}
 use Rattle.float.proofs.Order.{lt→le, le→not-above, not-lt→le}
 use Rattle.float.proofs.Signs.{finite-number, armijo}
@@ -22,10 +22,10 @@ use Rattle.linesearch.specs.declared.Evaluation.{Evaluation}
 use Rattle.linesearch.specs.declared.Line.{Line}
 use Rattle.linesearch.specs.Trials.{two, startOf, armijoOf}
 use Rattle.linesearch_theory.specs.Algorithm.{WolfeResult, start, bracket, search}
-use Rattle.linesearch_theory.specs.Laws.{ValueTold, Heard, EvaluationTold, Together, Descending, ResultLaws, StepLaws, SearchLaws}
+use Rattle.linesearch_theory.specs.Laws.{Heard, EvaluationTold, Descending, ResultLaws, StepLaws, SearchLaws}
 use Rattle.linesearch_theory.proofs.Steps.{Plus, plus-le, positive-plus, min-plus, twice-plus, interpolate-plus}
-use Rattle.linesearch_theory.proofs.LawsTold.{evaluations, told-grows, heard-finite, Tried}
-use Rattle.linesearch_theory.proofs.LawsResults.{Fine, Result, results}
+use Rattle.linesearch_theory.proofs.LawsTold.{evaluations, heard-finite, Tried}
+use Rattle.linesearch_theory.proofs.LawsResults.{Result, results}
 use Rattle.linesearch_theory.proofs.LawsTrials.{counted, least}
 use Rattle.linesearch_theory.proofs.LawsAsked.{asked}
 

@@ -16,10 +16,10 @@ use Rattle.protocol.specs.declared.Kind.the-variants.{Value}
 use Rattle.protocol.specs.declared.WolfeOptions.{WolfeOptions}
 use Rattle.protocol.specs.Protocol.{readOf}
 use Rattle.protocol.specs.Claim.{Exchange, F64s}
-use Rattle.protocol.specs.Ask.{Ask, finish, query, askValue, _>>=_, heardAt, wp, Grows}
+use Rattle.protocol.specs.Ask.{Ask, finish, askValue, _>>=_, heardAt, wp, Grows}
 use Rattle.protocol.proofs.Texts.{wp-bind, wp-map, wp-grows}
 use Rattle.protocol.proofs.Readings.{only, read-own}
-use Rattle.objective.specs.Algorithm.{slopeAt, forwardOf, backwardOf, differencesFrom, evalGradient}
+use Rattle.objective.specs.Algorithm.{slopeAt, differencesFrom, evalGradient}
 use Rattle.linesearch.specs.declared.Evaluation.{Evaluation}
 use Rattle.linesearch.specs.declared.Line.{Line}
 use Rattle.linesearch_theory.specs.Algorithm.{pointAt, evaluated, eval}

@@ -1,6 +1,6 @@
 -- With the objective's gradients a V question is a trial: `trials` counts them (`counted`), and nothing told in a search that fails is below what it gives (`least`).
 -- Assumes nothing.
-use Prim.Native.Nat.{ℕ, suc, _+_, _-_, _≤_}
+use Prim.Native.Nat.{ℕ, _+_, _-_, _≤_}
 use native.Mathlib.Omega.{arith}
 use mathlib.Core.Path.{_≡_, refl, sym, _∙_, ap, subst}
 use mathlib.Core.Logic.{_⊎_, inl, inr, ⊎-elim}
@@ -10,7 +10,7 @@ use mathlib.Core.Bool.{Bool, true, false, cond, true≢false}
 use lib.Dec.{T}
 use lib.ListN.{length, getD}
 use lib.Ieee.{Float, nan, inf, fin, lt}
-use Rattle.float.specs.Binary64.{NotAbove, plusZero}
+use Rattle.float.specs.Binary64.{NotAbove}
 use Rattle.float.specs.Values.{Finite, finiteOf}
 use Rattle.float.proofs.Order.{not-above-trans, lt→le, le→not-above}
 use Rattle.float.proofs.Signs.{finite-number}
@@ -26,7 +26,7 @@ use Rattle.protocol.proofs.RoundsCalls.{answers-more}
 use Rattle.linesearch.specs.declared.Evaluation.{Evaluation}
 use Rattle.linesearch.specs.declared.Line.{Line}
 use Rattle.linesearch.specs.Trials.{startOf}
-use Rattle.linesearch_theory.specs.Algorithm.{WolfeResult, evaluated, eval, lower, keep, start, bestOrStart, search}
+use Rattle.linesearch_theory.specs.Algorithm.{WolfeResult, evaluated, eval, keep, start, bestOrStart, search}
 use Rattle.linesearch_theory.proofs.LawsInduction.{Invariant, search-holds}
 use Rattle.linesearch_theory.proofs.LawsTold.{read-cases, pt}
 
