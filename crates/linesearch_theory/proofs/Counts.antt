@@ -6,7 +6,7 @@ use mathlib.Core.Option.{Option, none, some}
 use mathlib.Core.List.{List, [], _∷_, _++_, map, zipWith}
 use mathlib.Core.Bool.{Bool, true, false, cond}
 use lib.ListN.{length, getD}
-use lib.Ieee.{Float, nan, lt}
+use lib.Ieee.{Float, nan}
 use Rattle.float.specs.Binary64.{_⊕_, _⊗_}
 use Rattle.float.specs.Values.{finiteOf}
 use Rattle.vector.specs.Loops.{at}
@@ -22,9 +22,9 @@ use Rattle.protocol.proofs.Bounds.{costs-more, costs-bind}
 use Rattle.objective.specs.Algorithm.{slopeAt, differencesFrom, evalGradient}
 use Rattle.linesearch.specs.declared.Evaluation.{Evaluation}
 use Rattle.linesearch.specs.declared.Line.{Line}
-use Rattle.linesearch_theory.specs.Algorithm.{WolfeResult, pointAt, evaluated, eval, lower, keep, start, bestOrStart, search}
+use Rattle.linesearch_theory.specs.Algorithm.{WolfeResult, pointAt, evaluated, eval, keep, bestOrStart, search}
 use Rattle.linesearch_theory.specs.Counts.{perGradient, perTrial, SearchCounts}
-use Rattle.linesearch_theory.proofs.LawsInduction.{Invariant, search-holds}
+use Rattle.linesearch_theory.proofs.LawsInduction.{Invariant, search-holds, keep-cases, given-cases}
 
 -- ---- a gradient
 
@@ -102,20 +102,11 @@ module _ (κ : Kind) (read : Float → Float) (gradients : Bool) (o : WolfeOptio
   Best (some b) = Short b
 
   keeps : (t : Evaluation) (best : Option Evaluation) → Short t → Best best → Best (keep read gradients o l t best)
-  keeps t best h k = go (finiteOf (t .trial .value)) (lower read gradients o l t best)
-    where
-      go : (b c : Bool) → Best (cond b (cond c (some t) best) best)
-      go true true = h
-      go true false = k
-      go false c = k
+  keeps t best h k = keep-cases read gradients o l Best t best (λ f. h) k
 
   fails : (best : Option Evaluation) → Best best → Short (bestOrStart read gradients o l best)
   fails none h = short
-  fails (some b) h = go (lt (b .trial .value) (l .f))
-    where
-      go : (c : Bool) → Short (cond c b (start read gradients o l))
-      go true = h
-      go false = short
+  fails (some b) h = given-cases read gradients o l Short b (λ e. h) (λ e. short)
 
   abbrev Then : ℕ → Ask WolfeResult → Type 0
   Then k m = Costs κ (k * each) m (λ r. Short (r .at))

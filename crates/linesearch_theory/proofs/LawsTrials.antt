@@ -26,8 +26,8 @@ use Rattle.protocol.proofs.RoundsCalls.{answers-more}
 use Rattle.linesearch.specs.declared.Evaluation.{Evaluation}
 use Rattle.linesearch.specs.declared.Line.{Line}
 use Rattle.linesearch.specs.Trials.{startOf}
-use Rattle.linesearch_theory.specs.Algorithm.{WolfeResult, evaluated, eval, keep, start, bestOrStart, search}
-use Rattle.linesearch_theory.proofs.LawsInduction.{Invariant, search-holds}
+use Rattle.linesearch_theory.specs.Algorithm.{WolfeResult, evaluated, eval, keep, bestOrStart, search}
+use Rattle.linesearch_theory.proofs.LawsInduction.{Invariant, search-holds, given-cases}
 use Rattle.linesearch_theory.proofs.LawsTold.{read-cases, pt}
 
 -- ---- one exchange more
@@ -166,11 +166,10 @@ module _ (read : Float → Float) (o : WolfeOptions) (l : Line) where
     fails : (k : ℕ) (es : List Exchange) (best : Option Evaluation) → Cover es best → LeastEnd es (record { success = false; at = bestOrStart read true o l best; trials = o .evals - k })
     unfolding startOf
     fails k es none h i x v t = ⊎-elim (λ j. inl j) (λ j. inr (none-above _ (readOf v) j)) (h x v t)
-    fails k es (some b) h i x v t = ⊎-elim (λ j. inl j) (λ j. inr (go (lt (b .trial .value) (l .f)) refl j)) (h .1 x v t)
-      where
-        go : (c : Bool) → lt (b .trial .value) (l .f) ≡ c → NotAbove (b .trial .value) (readOf v) → NotAbove (cond c b (start read true o l) .trial .value) (readOf v)
-        go true e j = j
-        go false e j = not-above-trans (l .f) (b .trial .value) (readOf v) (finite-number (b .trial .value) (h .0)) (rw e tt) j
+    fails k es (some b) h i x v t =
+        ⊎-elim (λ j. inl j)
+        (λ j. inr (given-cases read true o l (λ at. NotAbove (at .trial .value) (readOf v)) b (λ e. j)
+        (λ e. not-above-trans (l .f) (b .trial .value) (readOf v) (finite-number (b .trial .value) (h .0)) (rw e tt) j))) (h .1 x v t)
 
     covers : Invariant read true o l
     covers = record {
