@@ -26,7 +26,7 @@ use Rattle.linesearch_theory.specs.Laws.{Heard, EvaluationTold, Descendi
 use Rattle.linesearch_theory.proofs.Steps.{Plus, plus-le, positive-plus, min-plus, twice-plus, interpolate-plus}
 use Rattle.linesearch_theory.proofs.LawsTold.{evaluations, heard-finite, Tried}
 use Rattle.linesearch_theory.proofs.LawsResults.{Result, results}
-use Rattle.linesearch_theory.proofs.LawsTrials.{counted, least}
+use Rattle.linesearch_theory.proofs.LawsTrials.{trials-made}
 use Rattle.linesearch_theory.proofs.LawsAsked.{asked}
 
 by-success : {P : Type 0} (b : Bool) → (b ≡ true → P) → (b ≡ false → P) → P
@@ -63,6 +63,7 @@ module _ (read : Float → Float) (gradients : Bool) (o : WolfeOptions) (l : Lin
   result-laws =
       record {
         trials-at-most = wp-map es text Any (λ fs r. r .trials ≤ o .evals) (λ fs r h. h .trials) any;
+        trials-made = trials-made read gradients o l initial es;
         success-meets = wp-map es text Any _ (λ fs r h e. (h .succeeded e .1, h .succeeded e .2)) any;
         failure-below = wp-map es text Any _ (λ fs r h e. ⊎-elim (λ k. inl (heard-finite fs (r .at .x) (r .at .trial .value) (k .0 .1 .heard) (k .1), k .2)) (λ k. inr k) (h .failed e)) any;
         together = wp-map es text Any _ (λ fs r h. ⊎-elim (λ k. inl (k .together)) (λ k. inr k) (tried-or-start fs r h)) any;
@@ -143,6 +144,5 @@ search-laws =
       evaluations = evaluations;
       results = result-laws;
       steps = step-laws;
-      trials = λ read o l initial es. record { trials-counted = counted read o l initial es; failure-least = least read o l initial es };
       begins = λ read gradients o l initial f h. begins-bracket read gradients o l (o .evals) (minOf initial (o .stepmax)) f h;
     }
