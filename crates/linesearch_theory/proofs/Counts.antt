@@ -1,17 +1,16 @@
 -- What the search asks at most, of a kind: so much a trial, times max_evals (`counts`). Assumes nothing.
 use Prim.Native.Nat.{ℕ, zero, suc, _+_, _*_, _≤_, zero-le, suc-le-suc}
-use native.Mathlib.Nat.{le-trans, le-of-eq, mul-le-mul-left, suc-mul, mul-one, mul-zero}
+use native.Mathlib.Nat.{le-trans, suc-mul, mul-zero}
 use native.Mathlib.Omega.{arith}
-use mathlib.Core.Path.{_≡_, refl, sym, subst}
 use mathlib.Core.Option.{Option, none, some}
-use mathlib.Core.List.{List, [], _∷_, _++_, map, zipWith}
-use mathlib.Core.Bool.{Bool, true, false, cond}
+use mathlib.Core.List.{List, [], _∷_, _++_, zipWith}
+use mathlib.Core.Bool.{Bool, true, false}
 use lib.ListN.{length, getD}
-use lib.Ieee.{Float, nan, lt}
+use lib.Ieee.{Float, nan}
 use Rattle.float.specs.Binary64.{_⊕_, _⊗_}
 use Rattle.float.specs.Values.{finiteOf}
 use Rattle.vector.specs.Loops.{at}
-use Rattle.vector.specs.Lists.{dot, plusScaled}
+use Rattle.vector.specs.Lists.{plusScaled}
 use Rattle.protocol.specs.declared.Kind.{Kind}
 use Rattle.protocol.specs.declared.Kind.the-variants.{Value, Gradient}
 use Rattle.protocol.specs.declared.WolfeOptions.{WolfeOptions}
@@ -23,9 +22,10 @@ use Rattle.protocol.proofs.Bounds.{costs-more, costs-bind}
 use Rattle.objective.specs.Algorithm.{slopeAt, differencesFrom, evalGradient}
 use Rattle.linesearch.specs.declared.Evaluation.{Evaluation}
 use Rattle.linesearch.specs.declared.Line.{Line}
-use Rattle.linesearch_theory.specs.Algorithm.{WolfeResult, pointAt, evaluated, eval, lower, keep, start, bestOrStart, search}
+use Rattle.linesearch_theory.specs.Algorithm.{WolfeResult, pointAt, eval, keep, bestOrStart, search}
 use Rattle.linesearch_theory.specs.Counts.{perGradient, perTrial, SearchCounts}
-use Rattle.linesearch_theory.proofs.LawsInduction.{Invariant, search-holds}
+use Rattle.linesearch_theory.proofs.LawsTold.{made, valued}
+use Rattle.linesearch_theory.proofs.LawsInduction.{Invariant, search-holds, keep-cases, given-cases}
 
 -- ---- a gradient
 
@@ -77,16 +77,10 @@ module _ (κ : Kind) (read : Float → Float) (gradients : Bool) (o : WolfeOptio
   unfolding plusScaled
   point-short a = le-trans (zip-short (λ x d. x ⊕ a ⊗ d) (l .x) (l .d)) short
 
-  -- what follows the value
-  abbrev valued : Float → Float → Bool → Ask Evaluation
-  valued a v b =
-      cond b (evalGradient read gradients (pointAt read gradients o l a) >>= λ g. finish (evaluated read gradients o l a v g (dot g (l .d))))
-      (finish (evaluated read gradients o l a v (map (λ y. nan) (pointAt read gradients o l a)) nan))
-
-  valued-costs : (a v : Float) (b : Bool) → Costs κ (perGradient κ gradients n) (valued a v b) Short
+  valued-costs : (a v : Float) (b : Bool) → Costs κ (perGradient κ gradients n) (valued read gradients o l a v b) Short
   valued-costs a v true =
-      costs-more κ (perGradient κ gradients n + 0) (perGradient κ gradients n) (valued a v true) Short (omega arith)
-      (costs-bind κ (perGradient κ gradients n) 0 (evalGradient read gradients (pointAt read gradients o l a)) (λ g. finish (evaluated read gradients o l a v g (dot g (l .d)))) (λ g. Unit {0}) Short
+      costs-more κ (perGradient κ gradients n + 0) (perGradient κ gradients n) (valued read gradients o l a v true) Short (omega arith)
+      (costs-bind κ (perGradient κ gradients n) 0 (evalGradient read gradients (pointAt read gradients o l a)) (λ g. finish (made read gradients o l a v g)) (λ g. Unit {0}) Short
       (gradient-costs κ read gradients (pointAt read gradients o l a) n (point-short a)) (λ g h. point-short a))
   valued-costs a v false = point-short a
 
@@ -95,7 +89,7 @@ module _ (κ : Kind) (read : Float → Float) (gradients : Bool) (o : WolfeOptio
 
   eval-costs : (a : Float) → Costs κ each (eval read gradients o l a) Short
   eval-costs a =
-      costs-bind κ (ofKind κ Value) (perGradient κ gradients n) (askValue readOf (pointAt read gradients o l a)) (λ v. valued a v (finiteOf v)) (λ v. Unit {0}) Short
+      costs-bind κ (ofKind κ Value) (perGradient κ gradients n) (askValue readOf (pointAt read gradients o l a)) (λ v. valued read gradients o l a v (finiteOf v)) (λ v. Unit {0}) Short
       (value-costs (pointAt read gradients o l a)) (λ v h. valued-costs a v (finiteOf v))
 
   abbrev Best : Option Evaluation → Type 0
@@ -103,20 +97,11 @@ module _ (κ : Kind) (read : Float → Float) (gradients : Bool) (o : WolfeOptio
   Best (some b) = Short b
 
   keeps : (t : Evaluation) (best : Option Evaluation) → Short t → Best best → Best (keep read gradients o l t best)
-  keeps t best h k = go (finiteOf (t .trial .value)) (lower read gradients o l t best)
-    where
-      go : (b c : Bool) → Best (cond b (cond c (some t) best) best)
-      go true true = h
-      go true false = k
-      go false c = k
+  keeps t best h k = keep-cases read gradients o l Best t best (λ f. h) k
 
   fails : (best : Option Evaluation) → Best best → Short (bestOrStart read gradients o l best)
   fails none h = short
-  fails (some b) h = go (lt (b .trial .value) (l .f))
-    where
-      go : (c : Bool) → Short (cond c b (start read gradients o l))
-      go true = h
-      go false = short
+  fails (some b) h = given-cases read gradients o l Short b (λ e. h) (λ e. short)
 
   abbrev Then : ℕ → Ask WolfeResult → Type 0
   Then k m = Costs κ (k * each) m (λ r. Short (r .at))

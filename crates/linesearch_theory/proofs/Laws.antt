@@ -1,13 +1,13 @@
 -- The laws of the search: `search-laws`. Assumes nothing.
 use Prim.Native.Nat.{ℕ, zero, suc, _≤_}
-use mathlib.Core.Path.{_≡_, refl, sym, ap, subst}
+use mathlib.Core.Path.{_≡_, refl, sym, subst}
 use mathlib.Core.Logic.{_⊎_, inl, inr, ⊎-elim}
 use mathlib.Core.Option.{none}
 use mathlib.Core.List.{List}
 use mathlib.Core.Bool.{Bool, true, false}
 use lib.Dec.{T}
 use lib.Ieee.{Float, nan, inf, fin, lt, le}
-use Rattle.float.specs.Binary64.{F64, plusZero, _⊗_}
+use Rattle.float.specs.Binary64.{plusZero, _⊗_}
 use Rattle.float.specs.Values.{Finite, finiteOf, minOf}
 use Rattle.float.proofs.Order.{lt→le, le→not-above, not-lt→le}
 use Rattle.float.proofs.Signs.{finite-number, armijo}
@@ -22,11 +22,11 @@ use Rattle.linesearch.specs.declared.Evaluation.{Evaluation}
 use Rattle.linesearch.specs.declared.Line.{Line}
 use Rattle.linesearch.specs.Trials.{two, startOf, armijoOf}
 use Rattle.linesearch_theory.specs.Algorithm.{WolfeResult, start, bracket, search}
-use Rattle.linesearch_theory.specs.Laws.{ValueTold, Heard, EvaluationTold, Together, Descending, ResultLaws, StepLaws, SearchLaws}
+use Rattle.linesearch_theory.specs.Laws.{Heard, EvaluationTold, Descending, ResultLaws, StepLaws, SearchLaws}
 use Rattle.linesearch_theory.proofs.Steps.{Plus, plus-le, positive-plus, min-plus, twice-plus, interpolate-plus}
-use Rattle.linesearch_theory.proofs.LawsTold.{evaluations, told-grows, heard-finite, Tried}
-use Rattle.linesearch_theory.proofs.LawsResults.{Fine, Result, results}
-use Rattle.linesearch_theory.proofs.LawsTrials.{counted, least}
+use Rattle.linesearch_theory.proofs.LawsTold.{evaluations, heard-finite, Tried}
+use Rattle.linesearch_theory.proofs.LawsResults.{Result, results}
+use Rattle.linesearch_theory.proofs.LawsTrials.{trials-made}
 use Rattle.linesearch_theory.proofs.LawsAsked.{asked}
 
 by-success : {P : Type 0} (b : Bool) → (b ≡ true → P) → (b ≡ false → P) → P
@@ -63,6 +63,7 @@ module _ (read : Float → Float) (gradients : Bool) (o : WolfeOptions) (l : Lin
   result-laws =
       record {
         trials-at-most = wp-map es text Any (λ fs r. r .trials ≤ o .evals) (λ fs r h. h .trials) any;
+        trials-made = trials-made read gradients o l initial es;
         success-meets = wp-map es text Any _ (λ fs r h e. (h .succeeded e .1, h .succeeded e .2)) any;
         failure-below = wp-map es text Any _ (λ fs r h e. ⊎-elim (λ k. inl (heard-finite fs (r .at .x) (r .at .trial .value) (k .0 .1 .heard) (k .1), k .2)) (λ k. inr k) (h .failed e)) any;
         together = wp-map es text Any _ (λ fs r h. ⊎-elim (λ k. inl (k .together)) (λ k. inr k) (tried-or-start fs r h)) any;
@@ -143,6 +144,5 @@ search-laws =
       evaluations = evaluations;
       results = result-laws;
       steps = step-laws;
-      trials = λ read o l initial es. record { trials-counted = counted read o l initial es; failure-least = least read o l initial es };
       begins = λ read gradients o l initial f h. begins-bracket read gradients o l (o .evals) (minOf initial (o .stepmax)) f h;
     }

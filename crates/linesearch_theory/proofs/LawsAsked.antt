@@ -8,7 +8,7 @@ use lib.Dec.{T}
 use lib.ListN.{length, getD}
 use lib.Ieee.{Float, nan, lt}
 use Rattle.float.specs.Binary64.{_⊗_, plusZero}
-use Rattle.float.specs.Values.{finiteOf, minOf}
+use Rattle.float.specs.Values.{finiteOf}
 use Rattle.vector.specs.Loops.{at}
 use Rattle.vector.specs.Lists.{dot, plusScaled}
 use Rattle.protocol.specs.declared.Kind.{Kind}

@@ -1,19 +1,20 @@
--- An induction along the search: what its beginning has and each trial keeps, its end has (`search-holds`). Assumes nothing.
+-- An induction along the search: what its beginning has and each trial keeps, its end has (`search-holds`); and what is kept and given, by cases. Assumes nothing.
 use Prim.Native.Nat.{ℕ, zero, suc}
 use mathlib.Core.Path.{_≡_, refl}
 use mathlib.Core.Option.{Option, none, some}
 use mathlib.Core.Bool.{Bool, true, false, not, _||_, cond, true≢false}
-use lib.Ieee.{Float, le}
+use lib.Ieee.{Float, lt, le}
 use Rattle.float.specs.Binary64.{_⊖_, _⊗_, plusZero}
-use Rattle.float.specs.Values.{finiteOf, minOf}
+use Rattle.float.specs.Values.{Finite, finiteOf, minOf}
 use Rattle.protocol.specs.declared.WolfeOptions.{WolfeOptions}
 use Rattle.protocol.specs.Ask.{Ask, _>>=_}
+use Rattle.protocol.proofs.Replies.{true-T}
 use Rattle.linesearch.specs.declared.Trial.{Trial}
 use Rattle.linesearch.specs.declared.Evaluation.{Evaluation}
 use Rattle.linesearch.specs.declared.Line.{Line}
 use Rattle.linesearch.specs.Cubic.{interpolateOf}
 use Rattle.linesearch.specs.Trials.{two, startOf, armijoOf, curvatureOf, narrowOf}
-use Rattle.linesearch_theory.specs.Algorithm.{WolfeResult, eval, keep, failure, success, zoom, before, risen, bracket, search}
+use Rattle.linesearch_theory.specs.Algorithm.{WolfeResult, eval, lower, keep, start, bestOrStart, failure, success, zoom, before, risen, bracket, search}
 
 module _ (read : Float → Float) (gradients : Bool) (o : WolfeOptions) (l : Line) where
   -- `Then k c m`: what is to hold of the text m, with k trials left and with all that was so far in c
@@ -32,6 +33,24 @@ module _ (read : Float → Float) (gradients : Bool) (o : WolfeOptions) (l : Lin
         → ((d : State) (t : Evaluation) → Fine d t → Best d (keep read gradients o l t best) → Then k d (f t)) → Then (suc k) c (eval read gradients o l a >>= f)
     pub fails : (k : ℕ) (c : State) (best : Option Evaluation) → Best c best → Then k c (failure read gradients o l k best)
     pub succeeds : (k : ℕ) (c : State) (t : Evaluation) → Fine c t → armijoOf o l (t .trial) ≡ true → curvatureOf o l (t .trial) ≡ true → Then k c (success read gradients o l k t)
+
+  -- what is kept after a trial: the trial, which is then finite, or the best before it
+  pub keep-cases : (P : Option Evaluation → Type 0) (t : Evaluation) (best : Option Evaluation) → (Finite (t .trial .value) → P (some t)) → P best → P (keep read gradients o l t best)
+  keep-cases P t best h k = go (finiteOf (t .trial .value)) (lower read gradients o l t best) refl
+    where
+      go : (b c : Bool) → finiteOf (t .trial .value) ≡ b → P (cond b (cond c (some t) best) best)
+      go true true e = h (true-T (finiteOf (t .trial .value)) e)
+      go true false e = k
+      go false c e = k
+
+  -- what a failure gives: the best where it is below f0, or the start
+  pub given-cases : (P : Evaluation → Type 0) (b : Evaluation) → (lt (b .trial .value) (l .f) ≡ true → P b) → (lt (b .trial .value) (l .f) ≡ false → P (start read gradients o l))
+      → P (bestOrStart read gradients o l (some b))
+  given-cases P b h k = go (lt (b .trial .value) (l .f)) refl
+    where
+      go : (c : Bool) → lt (b .trial .value) (l .f) ≡ c → P (cond c b (start read gradients o l))
+      go true e = h e
+      go false e = k e
 
   -- a trial for which neither test holds meets Armijo
   or-false : (a b : Bool) → not a || b ≡ false → a ≡ true

@@ -5,11 +5,11 @@ use mathlib.Core.Path.{_≡_, refl, sym, subst}
 use mathlib.Core.Logic.{_⊎_, inl, inr}
 use mathlib.Core.Option.{Option, none, some}
 use mathlib.Core.List.{List}
-use mathlib.Core.Bool.{Bool, true, false, cond, true≢false, false≢true}
+use mathlib.Core.Bool.{Bool, true, false, true≢false, false≢true}
 use lib.Dec.{T}
 use lib.Ieee.{Float, lt}
 use Rattle.float.specs.Binary64.{_⊗_, plusZero}
-use Rattle.float.specs.Values.{Finite, finiteOf, minOf}
+use Rattle.float.specs.Values.{Finite, minOf}
 use Rattle.protocol.specs.declared.WolfeOptions.{WolfeOptions}
 use Rattle.protocol.specs.Claim.{Exchange}
 use Rattle.protocol.specs.Ask.{Ask, _>>=_, wp, Grows}
@@ -20,8 +20,8 @@ use Rattle.linesearch.specs.declared.Evaluation.{Evaluation}
 use Rattle.linesearch.specs.declared.Line.{Line}
 use Rattle.linesearch.specs.Cubic.{interpolateOf}
 use Rattle.linesearch.specs.Trials.{two, armijoOf, curvatureOf}
-use Rattle.linesearch_theory.specs.Algorithm.{WolfeResult, eval, lower, keep, start, bestOrStart, search}
-use Rattle.linesearch_theory.proofs.LawsInduction.{Invariant, search-holds}
+use Rattle.linesearch_theory.specs.Algorithm.{WolfeResult, eval, keep, start, bestOrStart, search}
+use Rattle.linesearch_theory.proofs.LawsInduction.{Invariant, search-holds, keep-cases, given-cases}
 use Rattle.linesearch_theory.proofs.LawsTold.{Tried, tried-grows, AtA, eval-told}
 
 -- `Step` holds of the steps tried: each is made from such ones
@@ -44,12 +44,7 @@ module _ (read : Float → Float) (gradients : Bool) (o : WolfeOptions) (l : Lin
   best-grows es fs (some b) g h = ((h .0 .0, tried-grows read gradients o l es fs b g (h .0 .1)), h .1)
 
   keeps : (es : List Exchange) (t : Evaluation) (best : Option Evaluation) → Fine es t → Best es best → Best es (keep read gradients o l t best)
-  keeps es t best h k = go (finiteOf (t .trial .value)) (lower read gradients o l t best) refl
-    where
-      go : (b c : Bool) → finiteOf (t .trial .value) ≡ b → Best es (cond b (cond c (some t) best) best)
-      go true true e = (h, true-T (finiteOf (t .trial .value)) e)
-      go true false e = k
-      go false c e = k
+  keeps es t best h k = keep-cases read gradients o l (Best es) t best (λ f. (h, f)) k
 
   abbrev Then : List Exchange → Ask WolfeResult → Type 0
   Then es m = wp es m Result
@@ -70,12 +65,14 @@ module _ (read : Float → Float) (gradients : Bool) (o : WolfeOptions) (l : Lin
 
   fails : (k : ℕ) (es : List Exchange) (best : Option Evaluation) → Best es best → Result es (record { success = false; at = bestOrStart read gradients o l best; trials = o .evals - k })
   fails k es none b = record { trials = within k; succeeded = λ e. absurd (false≢true e); failed = λ e. inr refl }
-  fails k es (some t) b = record { trials = within k; succeeded = λ e. absurd (false≢true e); failed = λ e. go (lt (t .trial .value) (l .f)) refl }
-    where
-      go : (c : Bool) → lt (t .trial .value) (l .f) ≡ c
-          → let at = cond c t (start read gradients o l) in (Fine es at × Finite (at .trial .value) × T (lt (at .trial .value) (l .f))) ⊎ (at ≡ start read gradients o l)
-      go true e = inl (b .0, b .1, true-T (lt (t .trial .value) (l .f)) e)
-      go false e = inr refl
+  fails k es (some t) b =
+      record {
+        trials = within k;
+        succeeded = λ e. absurd (false≢true e);
+        failed = λ e.
+            given-cases read gradients o l (λ at. (Fine es at × Finite (at .trial .value) × T (lt (at .trial .value) (l .f))) ⊎ (at ≡ start read gradients o l)) t
+            (λ i. inl (b .0, b .1, true-T (lt (t .trial .value) (l .f)) i)) (λ i. inr refl);
+      }
 
   invariant : Invariant read gradients o l
   invariant = record {

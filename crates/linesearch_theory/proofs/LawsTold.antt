@@ -16,10 +16,10 @@ use Rattle.protocol.specs.declared.Kind.the-variants.{Value}
 use Rattle.protocol.specs.declared.WolfeOptions.{WolfeOptions}
 use Rattle.protocol.specs.Protocol.{readOf}
 use Rattle.protocol.specs.Claim.{Exchange, F64s}
-use Rattle.protocol.specs.Ask.{Ask, finish, query, askValue, _>>=_, heardAt, wp, Grows}
+use Rattle.protocol.specs.Ask.{Ask, finish, askValue, _>>=_, heardAt, wp, Grows}
 use Rattle.protocol.proofs.Texts.{wp-bind, wp-map, wp-grows}
 use Rattle.protocol.proofs.Readings.{only, read-own}
-use Rattle.objective.specs.Algorithm.{slopeAt, forwardOf, backwardOf, differencesFrom, evalGradient}
+use Rattle.objective.specs.Algorithm.{slopeAt, differencesFrom, evalGradient}
 use Rattle.linesearch.specs.declared.Evaluation.{Evaluation}
 use Rattle.linesearch.specs.declared.Line.{Line}
 use Rattle.linesearch_theory.specs.Algorithm.{pointAt, evaluated, eval}
@@ -109,11 +109,11 @@ module _ (read : Float → Float) (gradients : Bool) (o : WolfeOptions) (l : Lin
   abbrev pub pt : Float → List Float
   pt a = pointAt read gradients o l a
 
-  abbrev made : Float → Float → List Float → Evaluation
+  abbrev pub made : Float → Float → List Float → Evaluation
   made a v g = evaluated read gradients o l a v g (dot g (l .d))
 
   -- what follows the value
-  abbrev valued : Float → Float → Bool → Ask Evaluation
+  abbrev pub valued : Float → Float → Bool → Ask Evaluation
   valued a v b = cond b (evalGradient read gradients (pt a) >>= λ g. finish (made a v g)) (finish (evaluated read gradients o l a v (map (λ y. nan) (pt a)) nan))
 
   with-value : (a v : Float) (b : Bool) (es : List Exchange) → finiteOf v ≡ b → Heard (pt a) es v → wp es (valued a v b) (AtA a)

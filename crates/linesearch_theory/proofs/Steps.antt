@@ -4,15 +4,14 @@ use Prim.Native.Nat.{ℕ, _+_, _*_, _-_}
 use native.Mathlib.Nat.{zero-mul}
 use native.Mathlib.Omega.{arith}
 use mathlib.Core.Path.{_≡_, refl, sym, subst}
-use mathlib.Core.Bool.{Bool, true, false, not, cond, true≢false, false≢true}
+use mathlib.Core.Bool.{Bool, true, false, not, cond, true≢false}
 use lib.IntN.{ℤ, pos, negsuc}
 use lib.Dec.{T, ltb, eqb}
 use lib.Ieee.{Float, nan, inf, fin, binary64, up, down, round, add, sub, mul, neg, lt, le, eq, isNan, sum, ofBits}
 use Rattle.float.specs.Binary64.{Number, NotAbove, negative, _⊕_, _⊖_, _⊗_, _⊘_, bits, plusZero}
 use Rattle.float.specs.Values.{Finite, finiteOf, signumOf, maxOf, minOf}
 use Rattle.float.specs.Sqrt.{sqrtOf}
-use Rattle.float.proofs.Order.{fin-le, le-number-l, le-trans, lt→le, lt-trans, lt-irrefl, by-test, not-lt→le}
-use Rattle.float.proofs.Signs.{finite-number}
+use Rattle.float.proofs.Order.{fin-le, le-number-l, le-trans, lt-trans, lt-irrefl, by-test}
 use Rattle.float.proofs.Sums.{round-neg, round-negative, minus-le}
 use Rattle.protocol.proofs.Replies.{true-T}
 use Rattle.linesearch.specs.declared.Trial.{Trial}

@@ -24,6 +24,7 @@ abbrev pub perTrial : Kind → Bool → ℕ → ℕ
 perTrial κ gradients n = ofKind κ Value + perGradient κ gradients n
 
 pub record SearchCounts : Type 0 where
-  pub gradient-costs : (κ : Kind) (read : Float → Float) (gradients : Bool) (x : List Float) (n : ℕ) → length x ≤ n → Costs κ (perGradient κ gradients n) (evalGradient read gradients x) (λ g. Unit {0})
+  pub gradient-costs : (κ : Kind) (read : Float → Float) (gradients : Bool) (x : List Float) (n : ℕ) → length x ≤ n
+      → Costs κ (perGradient κ gradients n) (evalGradient read gradients x) (λ g. Unit {0})
   pub search-costs : (κ : Kind) (read : Float → Float) (gradients : Bool) (o : WolfeOptions) (l : Line) (initial : Float) (n : ℕ) → length (l .x) ≤ n
       → Costs κ (o .evals * perTrial κ gradients n) (search read gradients o l initial) (λ r. length (r .at .x) ≤ n)
