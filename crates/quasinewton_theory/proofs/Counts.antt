@@ -1,13 +1,13 @@
 -- A gradient fit puts at most 1+I·E questions of each kind where the objective gives gradients, else at most (1+2n)(1+I·E), all of them for values (`bounds`, `counts`). Assumes
 -- nothing.
 use Prim.Native.Nat.{ℕ, suc, _+_, _*_, _≤_, zero-le}
-use native.Mathlib.Nat.{le-trans, le-of-eq, le-refl, mul-le-mul-right, suc-mul, zero-mul, mul-zero, mul-one, mul-comm, mul-assoc, mul-add}
+use native.Mathlib.Nat.{le-trans, le-refl, mul-le-mul-right, suc-mul, mul-zero, mul-one, mul-comm, mul-assoc, mul-add}
 use native.Mathlib.Omega.{arith}
 use mathlib.Core.Path.{_≡_, refl, sym, _∙_, ap, subst}
-use mathlib.Core.Logic.{_⊎_, inl, inr}
+use mathlib.Core.Logic.{inl, inr}
 use mathlib.Core.Bool.{Bool, true, false, not, _&&_, _||_, cond}
 use mathlib.Core.List.{List}
-use lib.Dec.{T, leb, eqb, nleb→lt}
+use lib.Dec.{eqb, nleb→lt}
 use lib.ListN.{length}
 use lib.Ieee.{Float, neg, lt}
 use Rattle.float.specs.Binary64.{plusZero}
@@ -19,7 +19,7 @@ use Rattle.protocol.specs.declared.SimplexOptions.{SimplexOptions}
 use Rattle.protocol.specs.declared.GradientOptions.{GradientOptions}
 use Rattle.protocol.specs.declared.Termination.{Termination}
 use Rattle.protocol.specs.declared.Termination.the-variants.{StepTolerance, FunctionTolerance, LineSearchFailed, GradientFailed}
-use Rattle.protocol.specs.Protocol.{readOf, Answer, Job, bfgs, lbfgs, Fit}
+use Rattle.protocol.specs.Protocol.{readOf, Job, Fit}
 use Rattle.protocol.specs.Claim.{Limit, limit, unlimited, _⊑_, ofKind, run}
 use Rattle.protocol.specs.Ask.{Ask, finish, askValue, _>>=_}
 use Rattle.protocol.specs.Rounds.{Ending, atHead, stops, fails, Rounds, Limits, reached, limitsOf, engine}
@@ -31,10 +31,10 @@ use Rattle.objective.specs.Algorithm.{evalGradient}
 use Rattle.hessian.specs.Algorithm.{direction, newHessian}
 use Rattle.linesearch.specs.declared.Evaluation.{Evaluation}
 use Rattle.linesearch.specs.declared.Line.{Line}
-use Rattle.linesearch_theory.specs.Algorithm.{WolfeResult, Searched, refuses, gives, search, wolfeRefusal, lineFrom, strongWolfe}
+use Rattle.linesearch_theory.specs.Algorithm.{Searched, refuses, gives, search, wolfeRefusal, lineFrom, strongWolfe}
 use Rattle.linesearch_theory.specs.Counts.{perGradient, perTrial}
 use Rattle.linesearch_theory.proofs.Counts.{counts as search-counts}
-use Rattle.quasinewton_theory.specs.Algorithm.{Position, movedTo, stepped, smallDecrease, smallStep, stopsLower, succeeded, concluded, initialStep, searched, notDescending, iterated, round, withGradient, withValue, opened, opening, quasiNewton}
+use Rattle.quasinewton_theory.specs.Algorithm.{Position, stepped, smallDecrease, smallStep, stopsLower, succeeded, concluded, initialStep, searched, notDescending, iterated, round, withGradient, withValue, opened, opening, quasiNewton}
 use Rattle.quasinewton_theory.specs.Counts.{withGradients, withoutGradients, GradientBounds, GradientJob, GradientCounts}
 use Rattle.quasinewton_theory.proofs.Laws.{opening-case, no-restart}
 

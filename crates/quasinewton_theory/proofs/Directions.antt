@@ -1,20 +1,21 @@
 -- A direction has as many coordinates as the gradient, each of them an f64, whatever pairs the model has taken in (`directions`). Assumes nothing.
 use Prim.Native.Nat.{ℕ, zero, suc}
 use native.Mathlib.Omega.{arith}
-use mathlib.Core.Path.{_≡_, refl, _∙_, ap}
+use mathlib.Core.Path.{_≡_, _∙_, ap}
 use mathlib.Core.Bool.{Bool, true, false, cond}
-use mathlib.Core.List.{List, [], _∷_, _++_, map, zipWith, foldl, reverse, reverseAux}
+use mathlib.Core.List.{List, [], _∷_, _++_, zipWith, foldl, reverse, reverseAux}
 use lib.Dec.{eqb}
 use lib.ListN.{length, length-map, drop}
-use lib.Ieee.{Float, neg, binary64, fits}
-use lib.Ieee.Fits.{add-fits}
-use Rattle.float.specs.Binary64.{F64, _⊕_, _⊘_, minusZero}
+use lib.Ieee.{Float, neg}
+use Rattle.float.specs.Binary64.{_⊘_}
 use Rattle.float.proofs.Closed.{closed}
 use Rattle.vector.specs.Lists.{dot, matVec, negation, scaled, plusScaled, minusScaled}
 use Rattle.vector.proofs.Loops.{length-upto}
 use Rattle.protocol.specs.Claim.{F64s}
 use Rattle.hessian.specs.declared.Pair.{Pair}
-use Rattle.hessian.specs.Algorithm.{InvHessian, dense, limited, DenseInvHessian, LbfgsMemory, Falling, one, diagonal, newDense, newMemory, newHessian, denseDirection, rankTwo, prepared, denseUpdate, fall, rise, rises, limitedDirection, limitedUpdate, direction, update}
+use Rattle.hessian.specs.Algorithm.{InvHessian, dense, limited, Falling, one, diagonal, newDense, newMemory, newHessian, denseDirection, rankTwo, denseUpdate, fall, rise, rises, limitedDirection, limitedUpdate, direction, update}
+use Rattle.hessian.specs.Ties.{Words}
+use Rattle.hessian.proofs.Words.{hessian-words}
 use Rattle.quasinewton_theory.specs.Laws.{PairsLong, Shaped, DirectionLaws}
 
 -- ---- lengths
@@ -55,41 +56,14 @@ direction-long n (limited l) g s i =
 
 -- ---- f64s
 
-sum-f64 : (a : Float) (zs : List Float) → F64 a → F64 (foldl _⊕_ a zs)
-sum-f64 a [] f = f
-sum-f64 a (z ∷ zs) f = sum-f64 (a ⊕ z) zs (closed .sum a z)
-
-dot-f64 : (a b : List Float) → F64 (dot a b)
-unfolding dot fits
-dot-f64 a b = sum-f64 minusZero (zipWith _ a b) tt
-
-pub map-f64s : {A : Type 0} (f : A → Float) (xs : List A) → ((x : A) → F64 (f x)) → F64s (map f xs)
-map-f64s f [] h = tt
-map-f64s f (x ∷ xs) h = (h x, map-f64s f xs h)
-
-zip-f64s : (f : Float → Float → Float) (xs ys : List Float) → ((x y : Float) → F64 (f x y)) → F64s (zipWith f xs ys)
-unfolding zipWith
-zip-f64s f [] ys h = tt
-zip-f64s f (x ∷ xs) [] h = tt
-zip-f64s f (x ∷ xs) (y ∷ ys) h = (h x y, zip-f64s f xs ys h)
-
 pub negation-f64s : (g : List Float) → F64s g → F64s (negation g)
 unfolding negation
 negation-f64s [] w = tt
 negation-f64s (x ∷ g) w = (closed .negation x (w .0), negation-f64s g (w .1))
 
-rises-f64s : (q : List Float) (ps : List Pair) (alphas : List Float) → F64s q → F64s (rises q ps alphas)
-unfolding rises rise plusScaled
-rises-f64s q [] alphas w = w
-rises-f64s q (p ∷ ps) [] w = w
-rises-f64s q (p ∷ ps) (a ∷ alphas) w = rises-f64s (rise q p a) ps alphas (zip-f64s _ q (p .s) (λ x y. closed .sum x _))
-
-direction-f64s : (h : InvHessian) (g : List Float) → F64s (direction h g)
-unfolding direction denseDirection limitedDirection matVec scaled
-direction-f64s (dense d) g = negation-f64s (matVec (d .rows) g) (map-f64s (λ row. dot row g) (d .rows) (λ row. dot-f64 row g))
-direction-f64s (limited l) g =
-    let w = foldl fall (record { q = g; alphas = [] }) (reverse (l .pairs)) in
-    negation-f64s (rises (scaled (w .q) (l .gamma)) (l .pairs) (w .alphas)) (rises-f64s (scaled (w .q) (l .gamma)) (l .pairs) (w .alphas) (map-f64s _ (w .q) (λ v. closed .product v (l .gamma))))
+of-words : (d : List Float) → Words d → F64s d
+of-words [] w = tt
+of-words (x ∷ d) w = (w 0, of-words d (λ k. w (suc k)))
 
 -- ---- the model's shape lasts
 
@@ -115,4 +89,4 @@ update-shaped n (limited l) s y k i j =
     (pairs-popped n (eqb (length (l .pairs)) (l .m)) (l .pairs) k) i j
 
 pub directions : DirectionLaws
-directions = record { long = direction-long; f64s = direction-f64s; new-shaped = new-shaped; update-shaped = update-shaped }
+directions = record { long = direction-long; f64s = λ h g. of-words (direction h g) (hessian-words .direction-words h g); new-shaped = new-shaped; update-shaped = update-shaped }

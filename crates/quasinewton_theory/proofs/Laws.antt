@@ -2,16 +2,16 @@
 -- nothing.
 use Prim.Native.Nat.{ℕ}
 use native.Mathlib.Omega.{arith}
-use mathlib.Core.Path.{_≡_, refl, sym, _∙_, ap, subst}
-use mathlib.Core.Logic.{_⊎_, inl, inr, ⊎-elim}
-use mathlib.Core.Bool.{Bool, true, false, not, _&&_, _||_, cond, true≢false, false≢true}
+use mathlib.Core.Path.{_≡_, refl, sym, _∙_, subst}
+use mathlib.Core.Logic.{inl, inr}
+use mathlib.Core.Bool.{Bool, true, false, not, _&&_, _||_, cond, true≢false}
 use mathlib.Core.List.{List, []}
 use lib.Dec.{T, eqb}
 use lib.ListN.{length}
 use lib.Ieee.{Float, neg, lt, le}
 use Rattle.float.specs.Binary64.{NotAbove, plusZero}
 use Rattle.float.specs.Values.{finiteOf, toleranceOf}
-use Rattle.float.proofs.Order.{le→not-above, lt→le}
+use Rattle.float.proofs.Order.{le→not-above}
 use Rattle.vector.specs.Lists.{dot, infNorm, allFinite, difference, negation}
 use Rattle.protocol.specs.declared.GradientOptions.{GradientOptions}
 use Rattle.protocol.specs.declared.Termination.{Termination}
@@ -31,7 +31,7 @@ use Rattle.linesearch_theory.specs.Algorithm.{WolfeResult, gives}
 use Rattle.linesearch_theory.specs.Laws.{ValueTold, Heard}
 use Rattle.linesearch_theory.proofs.LawsTold.{told-grows, heard-finite}
 use Rattle.linesearch_theory.proofs.Laws.{search-laws}
-use Rattle.quasinewton_theory.specs.Algorithm.{Position, movedTo, stored, stepped, smallDecrease, smallStep, stopsLower, succeeded, concluded, initialStep, searched, notDescending, directed, iterated, round, tests, withGradient, withValue, opened, opening, quasiNewton}
+use Rattle.quasinewton_theory.specs.Algorithm.{Position, stored, stepped, smallDecrease, smallStep, stopsLower, succeeded, concluded, initialStep, searched, notDescending, iterated, round, tests, withGradient, withValue, opened, opening, quasiNewton}
 use Rattle.quasinewton_theory.specs.Laws.{Shaped, AtHead, Failed, NotWorse, Improves, FailureLaw, SearchRefusal, FirstRefusal, FailsBy, GradientLaws, RefusalLaws}
 use Rattle.quasinewton_theory.proofs.FirstStep.{first-step-positive, first-step-at-most-one}
 use Rattle.quasinewton_theory.proofs.Steepest.{steepest-descends, negation-finite}
@@ -209,7 +209,7 @@ iterated-ends p es (fails k d) h = h
 
 round-ends : (es : List Exchange) (p : Position) → AtHead es p → wp es (round p) (End p)
 round-ends es p a =
-    round-case (λ m. wp es m (End p)) es p a ((a .value-told, not-above-self (p .f)), (λ n. n), λ i. inl (refl, refl)) 
+    round-case (λ m. wp es m (End p)) es p a ((a .value-told, not-above-self (p .f)), (λ n. n), λ i. inl (refl, refl))
     (λ d s. wp-map es (searched (iterated p) d) (End (iterated p)) (End p) (iterated-ends p) (searched-ok es (iterated p) d (iterated-head es p a) s))
 
 round-law : (s : Start) (es : List Exchange) (p : Position) → AtHead es p → Begins (round p) × wp es (round p) (Ends quasiNewton Least At s (p .f))

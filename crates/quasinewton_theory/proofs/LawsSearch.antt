@@ -1,14 +1,14 @@
 -- A fit's search, begun at the head of a round: of the tests of `strong_wolfe` only 6, 7 and 12 for x can refuse it (`searched-case`), and what it gives is told and not above f
 -- (`found`). Assumes nothing.
 use Prim.Native.Nat.{ℕ}
-use mathlib.Core.Path.{_≡_, refl, sym, _∙_, ap, subst}
+use mathlib.Core.Path.{_≡_, refl, sym, ap, subst}
 use mathlib.Core.Logic.{_⊎_, inl, inr}
 use mathlib.Core.Bool.{Bool, true, false, not, _&&_, cond, true≢false}
 use mathlib.Core.List.{List}
 use lib.Dec.{T, eqb, eqb→eq, eqb-refl, not-T}
 use lib.ListN.{length}
 use lib.Ieee.{Float, lt, le}
-use Rattle.float.specs.Binary64.{NotAbove, plusZero}
+use Rattle.float.specs.Binary64.{plusZero}
 use Rattle.float.specs.Values.{finiteOf, positiveOf}
 use Rattle.float.proofs.Order.{lt→le, lt-trans, le→not-above}
 use Rattle.vector.specs.Lists.{dot, allFinite}
@@ -16,7 +16,7 @@ use Rattle.protocol.specs.declared.Refusal.{Refusal}
 use Rattle.protocol.specs.declared.WolfeOptions.{WolfeOptions}
 use Rattle.protocol.specs.Protocol.{readOf, refusal, noRefusal}
 use Rattle.protocol.specs.Claim.{Exchange, F64s}
-use Rattle.protocol.specs.Ask.{Ask, finish, query, _>>=_, heardAt, wp, Grows}
+use Rattle.protocol.specs.Ask.{Ask, finish, query, _>>=_, wp, Grows}
 use Rattle.protocol.specs.Rounds.{Ending, fails}
 use Rattle.protocol.proofs.Texts.{bind-assoc, wp-map, wp-grows}
 use Rattle.protocol.proofs.Replies.{true-T, and-left, and-right}

@@ -1,7 +1,7 @@
 -- A gradient has as many coordinates as its point (`gradient-long`), and so have point and gradient of what a search gives (`search-long`). Assumes nothing.
 use Prim.Native.Nat.{ℕ, zero, suc, _+_}
 use native.Mathlib.Omega.{arith}
-use mathlib.Core.Path.{_≡_, refl, _∙_}
+use mathlib.Core.Path.{_≡_, _∙_}
 use mathlib.Core.Option.{Option, none, some}
 use mathlib.Core.Bool.{Bool, true, false, cond}
 use mathlib.Core.List.{List, [], _∷_, _++_, map}
@@ -14,7 +14,7 @@ use Rattle.vector.proofs.Loops.{length-upto}
 use Rattle.protocol.specs.declared.WolfeOptions.{WolfeOptions}
 use Rattle.protocol.specs.Protocol.{readOf}
 use Rattle.protocol.specs.Claim.{Exchange}
-use Rattle.protocol.specs.Ask.{Ask, finish, query, askValue, _>>=_, wp}
+use Rattle.protocol.specs.Ask.{Ask, finish, _>>=_, wp}
 use Rattle.protocol.proofs.Texts.{wp-bind, wp-map}
 use Rattle.objective.specs.Algorithm.{slopeAt, differencesFrom, evalGradient}
 use Rattle.linesearch.specs.declared.Evaluation.{Evaluation}

@@ -6,7 +6,6 @@ use native.Mathlib.Omega.{arith}
 use mathlib.Core.Path.{_≡_, refl, sym, _∙_, ap, subst}
 use mathlib.Core.Bool.{Bool, true, false, _&&_, cond, true≢false}
 use mathlib.Core.List.{List, [], _∷_, map, zipWith, foldl}
-use lib.IntN.{pos}
 use lib.Dec.{T, ltb, lt→ltb}
 use lib.Ieee.{Float, nan, inf, fin, binary64, round, up, down, neg, add, sum, mul, le}
 use Rattle.float.specs.Binary64.{negative, _⊕_, _⊗_, plusZero, minusZero}
