@@ -171,7 +171,7 @@ module _ (κ : Kind) (limits : Bool) (o : GradientOptions) (x : List Float) (l :
   opens : Keeps κ bound Head 0 (opening limits o x)
   opens =
       opening-case (Keeps κ bound Head 0) limits o x (λ k d. tt)
-      (λ wolfe some. keeps 0 trial 0 (opened limits o x) (opened-costs κ n limits o x (le-refl n)) (none-used (l .iter)) (omega arith))
+      (λ a. keeps 0 trial 0 (opened limits o x) (opened-costs κ n limits o x (le-refl n)) (none-used (l .iter)) (omega arith))
 
   rounds : (v g : ℕ) (p : Position) → Head (ofBoth κ v g) p → reached (p .iterations) (l .iter) ≡ false → Keeps κ bound Head (ofBoth κ v g) (round p)
   rounds v g p h i =

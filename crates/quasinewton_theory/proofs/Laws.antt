@@ -32,7 +32,7 @@ use Rattle.linesearch_theory.specs.Laws.{ValueTold, Heard}
 use Rattle.linesearch_theory.proofs.LawsTold.{told-grows, heard-finite}
 use Rattle.linesearch_theory.proofs.Laws.{search-laws}
 use Rattle.quasinewton_theory.specs.Algorithm.{Position, stored, stepped, smallDecrease, smallStep, stopsLower, succeeded, concluded, initialStep, searched, notDescending, iterated, round, tests, withGradient, withValue, opened, opening, quasiNewton}
-use Rattle.quasinewton_theory.specs.Laws.{Shaped, AtHead, Failed, NotWorse, Improves, FailureLaw, SearchRefusal, FirstRefusal, FailsBy, GradientLaws, RefusalLaws}
+use Rattle.quasinewton_theory.specs.Laws.{Shaped, Admitted, AtHead, SearchRefusal, FirstRefusal, RoundEnds, OpeningEnds, HeadLaws, GradientLaws, FailsBy, RefusalLaws}
 use Rattle.quasinewton_theory.proofs.FirstStep.{first-step-positive, first-step-at-most-one}
 use Rattle.quasinewton_theory.proofs.Steepest.{steepest-descends, negation-finite}
 use Rattle.quasinewton_theory.proofs.Directions.{zip-long, negation-long, negation-f64s, directions}
@@ -62,23 +62,17 @@ or-right false b e = e
 abbrev Lower : Float → List Exchange → List Float → Float → Type 0
 Lower v es x f = ValueTold es x f × NotAbove f v
 
--- of a round that was begun at p
-abbrev End : Position → List Exchange → Ending Position → Type 0
-End p es (atHead q) = AtHead es q × NotAbove (q .f) (p .f)
-End p es (stops y q) = Lower (p .f) es (q .x) (q .f) × Own y × (Failed y → NotWorse p q)
-End p es (fails k d) = SearchRefusal k d
-
 known : (es : List Exchange) (x : List Float) (f : Float) → ValueTold es x f → Known ⊥ es x f
 known es x f h = (h .0, h .2, λ no. absurd no)
 
-ends-fit : (k d : ℕ) → SearchRefusal k d → T (endsFit k d)
+pub ends-fit : (k d : ℕ) → SearchRefusal k d → T (endsFit k d)
 ends-fit k d (inl i) = rw (i .0, i .1) tt
 ends-fit k d (inr (inl i)) = rw (i .0, i .1) tt
 ends-fit k d (inr (inr i)) = rw (i .0, i .1) tt
 
-ends : (s : Start) (p : Position) (es : List Exchange) (e : Ending Position) → End p es e → Ends quasiNewton Least At s (p .f) es e
+ends : (s : Start) (p : Position) (es : List Exchange) (e : Ending Position) → RoundEnds p es e → Ends quasiNewton Least At s (p .f) es e
 ends s p es (atHead q) h = h
-ends s p es (stops y q) h = (known es (q .x) (q .f) (h .0 .0), h .0 .1, h .1)
+ends s p es (stops y q) h = (known es (q .x) (q .f) (h .0), h .1, h .2)
 ends s p es (fails k d) h = ends-fit k d h
 
 -- ---- after a search
@@ -99,9 +93,9 @@ module _ (es : List Exchange) (p : Position) (d : List Float) (a : AtHead es p) 
     same : Lower (p .f) fs (p .x) (p .f)
     same = (told-grows es fs (p .x) (p .f) (h .grows) (a .value-told), not-above-self (p .f))
 
-    stops-lower : (why : Termination) (b : Bool) → Own why → (b ≡ true → T (lt (t .trial .value) (p .f))) → End p fs (stopsLower why p t b)
-    stops-lower why true o k = (lower, o, λ i. inr (k refl))
-    stops-lower why false o k = (same, o, λ i. inl (refl, refl))
+    stops-lower : (why : Termination) (b : Bool) → Own why → (b ≡ true → T (lt (t .trial .value) (p .f))) → RoundEnds p fs (stopsLower why p t b)
+    stops-lower why true o k = (lower .0, lower .1, o, λ i. inr (k refl))
+    stops-lower why false o k = (same .0, same .1, o, λ i. inl (refl, refl))
 
     stepped-head : allFinite (t .g) ≡ true → AtHead fs (stepped p t)
     unfolding stepped difference
@@ -116,37 +110,36 @@ module _ (es : List Exchange) (p : Position) (d : List Float) (a : AtHead es p) 
           gradient-long = g-long;
           shaped = shaped-stored n (p .hess) (difference (t .x) (p .x)) (difference (t .g) (p .g)) (subst (λ (k : ℕ). Shaped k (p .hess)) (sym (h .x-long)) (a .shaped))
               (zip-long n _ (t .x) (p .x) refl (sym (h .x-long))) (zip-long n _ (t .g) (p .g) g-long p-long);
-          unknowns = λ z. a .unknowns (sym (h .x-long) ∙ z);
-          wolfe = a .wolfe;
+          admitted = record { wolfe = a .admitted .wolfe; unknowns = λ z. a .admitted .unknowns (sym (h .x-long) ∙ z) };
         }
 
-    succeeded-ok : End p fs (succeeded p t)
+    succeeded-ok : RoundEnds p fs (succeeded p t)
     unfolding stepped
     succeeded-ok = go (allFinite (t .g)) (smallDecrease (p .options .ftol) (p .f) (t .trial .value)) (smallStep (p .options .xtol) (p .x) (t .x)) refl
       where
         go : (b c e : Bool) → allFinite (t .g) ≡ b
-            → End p fs (cond (not b) (stopsLower GradientFailed p t (lt (t .trial .value) (p .f)))
+            → RoundEnds p fs (cond (not b) (stopsLower GradientFailed p t (lt (t .trial .value) (p .f)))
             (cond c (stops FunctionTolerance (stepped p t)) (cond e (stops StepTolerance (stepped p t)) (atHead (stepped p t)))))
         go false c e i = stops-lower GradientFailed (lt (t .trial .value) (p .f)) (λ n. n) (true-T (lt (t .trial .value) (p .f)))
-        go true true e i = (lower, (λ n. n), λ n. absurd n)
-        go true false true i = (lower, (λ n. n), λ n. absurd n)
+        go true true e i = (lower .0, lower .1, (λ n. n), λ n. absurd n)
+        go true false true i = (lower .0, lower .1, (λ n. n), λ n. absurd n)
         go true false false i = (stepped-head i, lower .1)
 
-  concluded-ok : (fs : List Exchange) (r : WolfeResult) → Found es p d a s fs (r .at) → End p fs (concluded p (gives r))
+  concluded-ok : (fs : List Exchange) (r : WolfeResult) → Found es p d a s fs (r .at) → RoundEnds p fs (concluded p (gives r))
   concluded-ok fs r h = go (r .success)
     where
-      go : (b : Bool) → End p fs (cond b (succeeded p (r .at)) (stopsLower LineSearchFailed p (r .at) (lt plusZero (r .at .trial .step) && lt (r .at .trial .value) (p .f))))
+      go : (b : Bool) → RoundEnds p fs (cond b (succeeded p (r .at)) (stopsLower LineSearchFailed p (r .at) (lt plusZero (r .at .trial .step) && lt (r .at .trial .value) (p .f))))
       go true = succeeded-ok fs (r .at) h
       go false =
           let less = lt (r .at .trial .value) (p .f) in
           stops-lower fs (r .at) h LineSearchFailed (lt plusZero (r .at .trial .step) && less) (λ n. n) (λ i. true-T less (and-right (lt plusZero (r .at .trial .step)) less i))
 
-  searched-ok : wp es (searched p d) (End p)
+  searched-ok : wp es (searched p d) (RoundEnds p)
   searched-ok =
-      searched-case es p d a s (λ m. wp es m (End p)) (λ k e r. r)
+      searched-case es p d a s (λ m. wp es m (RoundEnds p)) (λ k e r. r)
       (λ some e. let m = text es p d a s in
-      wp-bind es m (λ r. finish (concluded p (gives r))) (End p)
-      (wp-map es m (λ fs r. Found es p d a s fs (r .at)) (λ fs r. End p fs (concluded p (gives r))) concluded-ok (found es p d a s e)))
+      wp-bind es m (λ r. finish (concluded p (gives r))) (RoundEnds p)
+      (wp-map es m (λ fs r. Found es p d a s fs (r .at)) (λ fs r. RoundEnds p fs (concluded p (gives r))) concluded-ok (found es p d a s e)))
 
   searched-begins : Begins (searched p d)
   searched-begins =
@@ -163,8 +156,7 @@ iterated-head es p a =
       gradient-f64s = a .gradient-f64s;
       gradient-long = a .gradient-long;
       shaped = a .shaped;
-      unknowns = a .unknowns;
-      wolfe = a .wolfe;
+      admitted = a .admitted;
     }
 
 steepest : (g : List Float) → notDescending (neg (dot g g)) ≡ false → le plusZero (dot g (negation g)) ≡ false
@@ -202,20 +194,23 @@ round-case P es p a h k =
         })
 
 -- counting the iteration changes neither point nor value
-iterated-ends : (p : Position) (es : List Exchange) (e : Ending Position) → End (iterated p) es e → End p es e
+iterated-ends : (p : Position) (es : List Exchange) (e : Ending Position) → RoundEnds (iterated p) es e → RoundEnds p es e
 iterated-ends p es (atHead q) h = h
 iterated-ends p es (stops y q) h = h
 iterated-ends p es (fails k d) h = h
 
-round-ends : (es : List Exchange) (p : Position) → AtHead es p → wp es (round p) (End p)
+round-ends : (es : List Exchange) (p : Position) → AtHead es p → wp es (round p) (RoundEnds p)
 round-ends es p a =
-    round-case (λ m. wp es m (End p)) es p a ((a .value-told, not-above-self (p .f)), (λ n. n), λ i. inl (refl, refl))
-    (λ d s. wp-map es (searched (iterated p) d) (End (iterated p)) (End p) (iterated-ends p) (searched-ok es (iterated p) d (iterated-head es p a) s))
+    round-case (λ m. wp es m (RoundEnds p)) es p a (a .value-told, not-above-self (p .f), (λ n. n), λ i. inl (refl, refl))
+    (λ d s. wp-map es (searched (iterated p) d) (RoundEnds (iterated p)) (RoundEnds p) (iterated-ends p) (searched-ok es (iterated p) d (iterated-head es p a) s))
+
+round-begins : (es : List Exchange) (p : Position) → AtHead es p → Begins (round p)
+round-begins es p a = round-case Begins es p a tt (λ d i. searched-begins es (iterated p) d (iterated-head es p a) i)
 
 round-law : (s : Start) (es : List Exchange) (p : Position) → AtHead es p → Begins (round p) × wp es (round p) (Ends quasiNewton Least At s (p .f))
 round-law s es p a = (
-  round-case Begins es p a tt (λ d i. searched-begins es (iterated p) d (iterated-head es p a) i),
-  wp-map es (round p) (End p) (Ends quasiNewton Least At s (p .f)) (ends s p) (round-ends es p a),
+  round-begins es p a,
+  wp-map es (round p) (RoundEnds p) (Ends quasiNewton Least At s (p .f)) (ends s p) (round-ends es p a),
 )
 
 -- ---- the opening
@@ -249,7 +244,7 @@ opened-case Q limits o x q18 q19 q =
 
 -- what holds of a refusal, and of the opening that asks, holds of the opening
 pub opening-case : (P : Ask (Ending Position) → Type 0) (limits : Bool) (o : GradientOptions) (x : List Float) → ((k d : ℕ) → P (finish (fails k d)))
-    → (lt plusZero (o .wolfe .c1) && lt (o .wolfe .c1) (o .wolfe .c2) && lt (o .wolfe .c2) one ≡ true → eqb (length x) 0 ≡ false → P (opened limits o x)) → P (opening limits o x)
+    → (Admitted o x → P (opened limits o x)) → P (opening limits o x)
 opening-case P limits o x p q =
     gate (limits && eqb (o .memory) 0) 3 0 _
     (λ e3. gate (not (toleranceOf (o .gradtol))) 4 1 _
@@ -257,7 +252,7 @@ opening-case P limits o x p q =
     (λ e5. gate (not (toleranceOf (o .xtol))) 4 3 _
     (λ e6. gate (not wolfe) 5 1 _
     (λ e7. gate (eqb (length x) 0) 9 0 _
-    (λ e9. gate (not (allFinite x)) 12 1 (opened limits o x) (λ e12. q (not-false wolfe e7) e9)))))))
+    (λ e9. gate (not (allFinite x)) 12 1 (opened limits o x) (λ e12. q (record { wolfe = not-false wolfe e7; unknowns = λ z. subst T (subst (λ (k : ℕ). eqb k 0 ≡ false) z e9) tt }))))))))
   where
     wolfe : Bool
     wolfe = lt plusZero (o .wolfe .c1) && lt (o .wolfe .c1) (o .wolfe .c2) && lt (o .wolfe .c2) one
@@ -265,6 +260,21 @@ opening-case P limits o x p q =
     gate : (b : Bool) (k d : ℕ) (m : Ask (Ending Position)) → (b ≡ false → P m) → P (cond b (finish (fails k d)) m)
     gate true k d m h = p k d
     gate false k d m h = h refl
+
+opening-ends : (limits : Bool) (o : GradientOptions) (x : List Float) → Admitted o x → wp [] (opened limits o x) OpeningEnds
+opening-ends limits o x a =
+    opened-case OpeningEnds limits o x (λ fs. inl (refl, refl)) (λ fs. inr (refl, refl))
+    (λ fs v g t w l e.
+    record { value-told = t; gradient-finite = e; gradient-f64s = w; gradient-long = l; shaped = directions .new-shaped limits (o .memory) (length x); admitted = a })
+
+pub first-ends-fit : (k d : ℕ) → FirstRefusal k d → T (endsFit k d)
+first-ends-fit k d (inl i) = rw (i .0, i .1) tt
+first-ends-fit k d (inr i) = rw (i .0, i .1) tt
+
+opens : (s : Start) (es : List Exchange) (e : Ending Position) → OpeningEnds es e → Opens quasiNewton Least At s es e
+opens s es (atHead p) h = h
+opens s es (stops y p) h = absurd h
+opens s es (fails k d) h = first-ends-fit k d h
 
 asks-first : (s : Start) (x : List Float) (f : Float → Ask (Ending Position)) → wp [] (askValue readOf x >>= f) (Opens quasiNewton Least At s)
     → Opening quasiNewton Least At s (askValue readOf x >>= f)
@@ -274,18 +284,8 @@ asks-first s x f h = h
 opening-law : (s : Start) (x : List Float) → Opening quasiNewton Least At s (opening (s .0) (s .1) x)
 opening-law s x =
     opening-case (Opening quasiNewton Least At s) (s .0) (s .1) x (λ k d. tt)
-    (λ wolfe some. asks-first s x (withValue (s .0) (s .1) x)
-    (opened-case (Opens quasiNewton Least At s) (s .0) (s .1) x (λ fs. tt) (λ fs. tt)
-    (λ fs v g t w l e.
-    record {
-      value-told = t;
-      gradient-finite = e;
-      gradient-f64s = w;
-      gradient-long = l;
-      shaped = directions .new-shaped (s .0) (s .1 .memory) (length x);
-      unknowns = λ z. subst T (subst (λ (k : ℕ). eqb k 0 ≡ false) z some) tt;
-      wolfe = wolfe;
-    })))
+    (λ a. asks-first s x (withValue (s .0) (s .1) x)
+    (wp-map [] (opened (s .0) (s .1) x) OpeningEnds (Opens quasiNewton Least At s) (opens s) (opening-ends (s .0) (s .1) x a)))
 
 -- ---- the tests
 
@@ -313,23 +313,18 @@ laws =
       round-ok = round-law;
     }
 
--- ---- failed searches, and refusals
+pub heads : HeadLaws
+heads = record { opening-ends = opening-ends; round-begins = round-begins; round-ends = round-ends }
 
-pub failures : FailureLaw
-failures es p a = wp-map es (round p) (End p) (Improves p) improves (round-ends es p a)
-  where
-    improves : (fs : List Exchange) (e : Ending Position) → End p fs e → Improves p fs e
-    improves fs (atHead q) h = tt
-    improves fs (stops y q) h = h .2
-    improves fs (fails k d) h = tt
+-- ---- refusals
 
-fails-by : (P : ℕ → ℕ → Type 0) → ((k d : ℕ) → SearchRefusal k d → P k d) → (p : Position) (es : List Exchange) (e : Ending Position) → End p es e → FailsBy P es e
+fails-by : (P : ℕ → ℕ → Type 0) → ((k d : ℕ) → SearchRefusal k d → P k d) → (p : Position) (es : List Exchange) (e : Ending Position) → RoundEnds p es e → FailsBy P es e
 fails-by P f p es (atHead q) h = tt
 fails-by P f p es (stops y q) h = tt
 fails-by P f p es (fails k d) h = f k d h
 
 in-rounds : (P : ℕ → ℕ → Type 0) → ((k d : ℕ) → SearchRefusal k d → P k d) → (es : List Exchange) (p : Position) → AtHead es p → wp es (round p) (FailsBy P)
-in-rounds P f es p a = wp-map es (round p) (End p) (FailsBy P) (fails-by P f p) (round-ends es p a)
+in-rounds P f es p a = wp-map es (round p) (RoundEnds p) (FailsBy P) (fails-by P f p) (round-ends es p a)
 
 never : (n : ℕ) → (6 ≡ n → ⊥) → (7 ≡ n → ⊥) → (12 ≡ n → ⊥) → (k d : ℕ) → SearchRefusal k d → k ≡ n → ⊥
 never n a b c k d (inl i) e = a (sym (i .0) ∙ e)

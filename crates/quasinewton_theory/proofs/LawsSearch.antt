@@ -101,17 +101,17 @@ module _ (es : List Exchange) (p : Position) (d : List Float) (a : AtHead es p) 
   not-zero = go (eqb (length (p .x)) 0) refl
     where
       go : (b : Bool) → eqb (length (p .x)) 0 ≡ b → b ≡ false
-      go true i = absurd (a .unknowns (eqb→eq (length (p .x)) 0 (true-T (eqb (length (p .x)) 0) i)))
+      go true i = absurd (a .admitted .unknowns (eqb→eq (length (p .x)) 0 (true-T (eqb (length (p .x)) 0) i)))
       go false i = refl
 
   c1-positive : lt plusZero (o .c1) ≡ true
-  c1-positive = and-left (lt plusZero (o .c1)) (lt (o .c1) (o .c2)) (and-left (lt plusZero (o .c1) && lt (o .c1) (o .c2)) (lt (o .c2) one) (a .wolfe))
+  c1-positive = and-left (lt plusZero (o .c1)) (lt (o .c1) (o .c2)) (and-left (lt plusZero (o .c1) && lt (o .c1) (o .c2)) (lt (o .c2) one) (a .admitted .wolfe))
 
   c1-less : lt (o .c1) (o .c2) ≡ true
-  c1-less = and-right (lt plusZero (o .c1)) (lt (o .c1) (o .c2)) (and-left (lt plusZero (o .c1) && lt (o .c1) (o .c2)) (lt (o .c2) one) (a .wolfe))
+  c1-less = and-right (lt plusZero (o .c1)) (lt (o .c1) (o .c2)) (and-left (lt plusZero (o .c1) && lt (o .c1) (o .c2)) (lt (o .c2) one) (a .admitted .wolfe))
 
   c2-less : lt (o .c2) one ≡ true
-  c2-less = and-right (lt plusZero (o .c1) && lt (o .c1) (o .c2)) (lt (o .c2) one) (a .wolfe)
+  c2-less = and-right (lt plusZero (o .c1) && lt (o .c1) (o .c2)) (lt (o .c2) one) (a .admitted .wolfe)
 
   c1-below-one : lt (o .c1) one ≡ true
   c1-below-one = T-true (lt (o .c1) one) (lt-trans (o .c1) (o .c2) one (true-T (lt (o .c1) (o .c2)) c1-less) (true-T (lt (o .c2) one) c2-less))

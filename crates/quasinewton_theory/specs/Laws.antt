@@ -7,7 +7,7 @@ use mathlib.Core.List.{List, [], _∷_}
 use lib.Dec.{T}
 use lib.ListN.{length}
 use lib.Ieee.{Float, neg, lt, le}
-use Rattle.float.specs.Binary64.{plusZero}
+use Rattle.float.specs.Binary64.{NotAbove, plusZero}
 use Rattle.float.specs.Values.{positiveOf}
 use Rattle.vector.specs.Lists.{dot, allFinite, negation}
 use Rattle.protocol.specs.declared.GradientOptions.{GradientOptions}
@@ -16,7 +16,7 @@ use Rattle.protocol.specs.declared.Termination.the-variants.{GradientTolerance,
 use Rattle.protocol.specs.Claim.{Exchange, F64s}
 use Rattle.protocol.specs.Ask.{wp}
 use Rattle.protocol.specs.Rounds.{Ending, atHead, stops, fails}
-use Rattle.protocol.specs.RoundsLaws.{RoundsLaws}
+use Rattle.protocol.specs.RoundsLaws.{Own, Begins, RoundsLaws}
 use Rattle.hessian.specs.declared.Pair.{Pair}
 use Rattle.hessian.specs.Algorithm.{one, InvHessian, dense, limited, direction, update, newHessian}
 use Rattle.linesearch_theory.specs.Laws.{ValueTold}
@@ -41,7 +41,12 @@ pub record DirectionLaws : Type 0 where
 
 -- ---- at the head of a round
 
--- at the head p after the exchanges es
+-- the start's own tests, of c1 and c2 (5) and of n (9)
+pub record Admitted (o : GradientOptions) (x : List Float) : Type 0 where
+  pub wolfe : lt plusZero (o .wolfe .c1) && lt (o .wolfe .c1) (o .wolfe .c2) && lt (o .wolfe .c2) one ≡ true
+  pub unknowns : length x ≡ 0 → ⊥
+
+-- after the exchanges es
 pub record AtHead (es : List Exchange) (p : Position) : Type 0 where
   -- f is finite, an f64, and told for x
   pub value-told : ValueTold es (p .x) (p .f)
@@ -49,16 +54,22 @@ pub record AtHead (es : List Exchange) (p : Position) : Type 0 where
   pub gradient-f64s : F64s (p .g)
   pub gradient-long : length (p .g) ≡ length (p .x)
   pub shaped : Shaped (length (p .x)) (p .hess)
-  -- what the start has seen to: 9 and 5
-  pub unknowns : length (p .x) ≡ 0 → ⊥
-  pub wolfe : lt plusZero (p .options .wolfe .c1) && lt (p .options .wolfe .c1) (p .options .wolfe .c2) && lt (p .options .wolfe .c2) one ≡ true
+  -- what the start has seen to
+  pub admitted : Admitted (p .options) (p .x)
 
--- a gradient fit's f is told for its x, and never rises; it need not be the least told
-abbrev pub GradientLaws : Type 1
-GradientLaws = RoundsLaws quasiNewton (λ s. ⊥)
+-- ---- which refusals end a gradient fit
 
--- ---- a failed search
+-- 6: max_evals is 0; 7: step_max is not positive and finite; 12 with detail 1: x is not finite
+abbrev pub SearchRefusal : ℕ → ℕ → Type 0
+SearchRefusal k d = ((k ≡ 6) × (d ≡ 0)) ⊎ (((k ≡ 7) × (d ≡ 0)) ⊎ ((k ≡ 12) × (d ≡ 1)))
 
+-- 18: the first value is not finite; 19: the first gradient is not
+abbrev pub FirstRefusal : ℕ → ℕ → Type 0
+FirstRefusal k d = ((k ≡ 18) × (d ≡ 0)) ⊎ ((k ≡ 19) × (d ≡ 0))
+
+-- ---- how a round ends
+
+-- the two reasons for which a fit stops after a search that failed, or that gave no finite gradient. quasinewton.rs: "keep any improvement, then stop"
 abbrev pub Failed : Termination → Type 0
 Failed GradientTolerance = ⊥
 Failed SimplexTolerance = ⊥
@@ -74,25 +85,27 @@ Failed ObjectiveResolution = ⊥
 abbrev pub NotWorse : Position → Position → Type 0
 NotWorse p q = ((q .x ≡ p .x) × (q .f ≡ p .f)) ⊎ T (lt (q .f) (p .f))
 
--- "keep any improvement, then stop"
-abbrev pub Improves : Position → List Exchange → Ending Position → Type 0
-Improves p es (atHead q) = Unit {0}
-Improves p es (stops y q) = Failed y → NotWorse p q
-Improves p es (fails k d) = Unit {0}
+-- begun at p: f never rises, and is told for x; where a search or its gradient failed, the fit is where the round began, or lower
+abbrev pub RoundEnds : Position → List Exchange → Ending Position → Type 0
+RoundEnds p es (atHead q) = AtHead es q × NotAbove (q .f) (p .f)
+RoundEnds p es (stops y q) = ValueTold es (q .x) (q .f) × NotAbove (q .f) (p .f) × Own y × (Failed y → NotWorse p q)
+RoundEnds p es (fails k d) = SearchRefusal k d
 
--- where a search or its gradient fails, the fit stops at the point where the round began, or at a lower one
-abbrev pub FailureLaw : Type 0
-FailureLaw = (es : List Exchange) (p : Position) → AtHead es p → wp es (round p) (Improves p)
+abbrev pub OpeningEnds : List Exchange → Ending Position → Type 0
+OpeningEnds es (atHead q) = AtHead es q
+OpeningEnds es (stops y q) = ⊥
+OpeningEnds es (fails k d) = FirstRefusal k d
 
--- ---- which refusals end a gradient fit
+pub record HeadLaws : Type 0 where
+  pub opening-ends : (limits : Bool) (o : GradientOptions) (x : List Float) → Admitted o x → wp [] (opened limits o x) OpeningEnds
+  pub round-begins : (es : List Exchange) (p : Position) → AtHead es p → Begins (round p)
+  pub round-ends : (es : List Exchange) (p : Position) → AtHead es p → wp es (round p) (RoundEnds p)
 
--- 6: max_evals is 0; 7: step_max is not positive and finite; 12 with detail 1: x is not finite
-abbrev pub SearchRefusal : ℕ → ℕ → Type 0
-SearchRefusal k d = ((k ≡ 6) × (d ≡ 0)) ⊎ (((k ≡ 7) × (d ≡ 0)) ⊎ ((k ≡ 12) × (d ≡ 1)))
+-- a gradient fit's f is told for its x, and never rises; it need not be the least told
+abbrev pub GradientLaws : Type 1
+GradientLaws = RoundsLaws quasiNewton (λ s. ⊥)
 
--- 18: the first value is not finite; 19: the first gradient is not
-abbrev pub FirstRefusal : ℕ → ℕ → Type 0
-FirstRefusal k d = ((k ≡ 18) × (d ≡ 0)) ⊎ ((k ≡ 19) × (d ≡ 0))
+-- ---- refusals by name
 
 -- a text that fails does so with a refusal of which P holds
 abbrev pub FailsBy : (ℕ → ℕ → Type 0) → List Exchange → Ending Position → Type 0
