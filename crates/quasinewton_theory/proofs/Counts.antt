@@ -113,7 +113,8 @@ module _ (κ : Kind) (n : ℕ) where
       costs-bind κ (ofKind κ Value) per (askValue readOf x) (withValue limits o x) (λ v. Unit {0}) (End o 0) (0, omega arith, λ w. tt)
       (λ v u. cond-costs κ per (not (finiteOf v)) (finish (fails 18 0)) (graded v) (End o 0) tt
       (costs-more κ (per + 0) per (graded v) (End o 0) (omega arith)
-      (costs-bind κ per 0 m (λ g. finish (withGradient limits o x v g)) (λ g. Unit {0}) (End o 0) (search-counts .gradient-costs κ readOf (o .gradients) x n h) (λ g t. by-test (End o 0) (not (allFinite g)) _ _ (λ i. tt) (λ i. (h, refl, refl))))))
+      (costs-bind κ per 0 m (λ g. finish (withGradient limits o x v g)) (λ g. Unit {0}) (End o 0) (search-counts .gradient-costs κ readOf (o .gradients) x n h)
+      (λ g t. by-test (End o 0) (not (allFinite g)) _ _ (λ i. tt) (λ i. (h, refl, refl))))))
     where
       per : ℕ
       per = perGradient κ (o .gradients) n
