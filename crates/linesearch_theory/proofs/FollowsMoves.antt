@@ -97,7 +97,7 @@ module _ (read : Float → Float) (fixed : Fixed) (l : Line) where
             ∙ choose does (narrowOf lo hi) _ _ _ _ (ap (λ (k : ℕ). failure read gr o L k (best s)) (sym (one-left e)) ∙ failure-does (withEnds s true (s .previous) lo hi) h)
             (rw (add-one (s .trials)))
 
-    bracket-does : (b : Bool) (lo hi : Trial) (a : Float) → bracket read gr o L (left s) a (previousTrial b lo) (best s) ≡ does (bracketOf fixed l (withEnds s false b lo hi) a)
+    pub bracket-does : (b : Bool) (lo hi : Trial) (a : Float) → bracket read gr o L (left s) a (previousTrial b lo) (best s) ≡ does (bracketOf fixed l (withEnds s false b lo hi) a)
     unfolding bracketOf evalOf bracket
     bracket-does b lo hi a = go (leb (o .evals) (s .trials)) refl
       where
@@ -142,7 +142,7 @@ module _ (read : Float → Float) (fixed : Fixed) (l : Line) where
       go : (f k : Bool)
           → cond f (cond (lower read gr o L (lowered (fixed .n) t) (keptBest (fixed .n) k (s .best))) (some (lowered (fixed .n) t)) (keptBest (fixed .n) k (s .best))) (keptBest (fixed .n) k (s .best))
           ≡ keptBest (fixed .n) (cond (cond (not f) false (cond (not k) true (lt (t .trial .value) (s .best .trial .value)))) true k)
-            (cond (cond (not f) false (cond (not k) true (lt (t .trial .value) (s .best .trial .value)))) t (s .best))
+          (cond (cond (not f) false (cond (not k) true (lt (t .trial .value) (s .best .trial .value)))) t (s .best))
       go false k = refl
       go true false = refl
       go true true = least (lt (t .trial .value) (s .best .trial .value))
