@@ -19,7 +19,7 @@ use Rattle.linesearch_theory.specs.Algorithm.{bracket, search}
 use Rattle.linesearch_theory.specs.Follows.{loweredLine, kindOf, Shaped, toDo, outcome, answered, SearchFollows}
 use Rattle.linesearch_theory.proofs.FollowsMoves.{bracket-does}
 use Rattle.linesearch_theory.proofs.FollowsAnswers.{valuing, grading, differing}
-use Rattle.linesearch_theory.proofs.FollowsShape.{begun-shaped, told-shaped, told-gradient-shaped, begun-zeros, told-zeros, told-gradient-zeros, probe-zeros}
+use Rattle.linesearch_theory.proofs.FollowsShape.{begun-asks, begun-shaped, told-shaped, told-gradient-shaped, begun-zeros, told-zeros, told-gradient-zeros, probe-zeros}
 
 -- an open question that is for no trial's value and no gradient is for a difference
 third : (p : ℕ) → asksValue ≤ p → p ≤ asksDifference → (p ≡ asksValue → ⊥) → (p ≡ asksGradient → ⊥) → p ≡ asksDifference
@@ -61,6 +61,7 @@ module _ (read : Float → Float) (fixed : Fixed) (l : Line) where
   search-follows =
       record {
         begins = begins;
+        begun-asks = begun-asks fixed l;
         follows = next;
         ends-found = ends-found;
         ends-failed = ends-failed;

@@ -4,7 +4,7 @@ use Prim.Native.Nat.{ℕ, _+_, _≤_, _<_, zero-le}
 use mathlib.Core.Bool.{Bool, true, false, not, cond}
 use mathlib.Core.List.{List}
 use native.Mathlib.Omega.{arith}
-use borrow.Author.Tests.{leb-false, ltb-true}
+use borrow.Author.Tests.{leb-false, lt-leb, ltb-true}
 use lib.Dec.{leb, ltb, eqb}
 use lib.ListN.{length, getD-replicate}
 use lib.Ieee.{Float, nan, lt, le}
@@ -206,9 +206,13 @@ module _ (fixed : Fixed) (l : Line) (P : List Float → Type 0) (D : Differences
   unfolding toldGradientOf
   told-gradient-lasts s g p h = either (eqb (s .phase) asksGradient) _ _ (graded-lasts s g p h) h
 
--- ---- sizes
-
 module _ (fixed : Fixed) (l : Line) where
+  pub begun-asks : (initial : Float) → 0 < fixed .options .evals → begunOf fixed l initial .phase ≡ asksValue
+  unfolding begunOf bracketOf evalOf
+  begun-asks initial h = rw (lt-leb _ _ h)
+
+  -- ---- sizes
+
   abbrev Long : List Float → Type 0
   Long x = length x ≡ 16
 

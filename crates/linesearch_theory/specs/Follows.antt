@@ -135,6 +135,8 @@ module _ (read : Float → Float) (fixed : Fixed) (l : Line) where
 module _ (read : Float → Float) (fixed : Fixed) (l : Line) where
   pub record SearchFollows : Type 0 where
     pub begins : (initial : Float) → search read (fixed .gradients) (fixed .options) (loweredLine (fixed .n) l) initial ≡ toDo read fixed l (begunOf fixed l initial)
+    -- a search that is allowed a trial opens with a question
+    pub begun-asks : (initial : Float) → 0 < fixed .options .evals → begunOf fixed l initial .phase ≡ asksValue
     -- whatever the words w tell
     pub follows : (s : Search) → Shaped fixed s → s .phase ≤ asksDifference
         → toDo read fixed l s ≡ query (kindOf s) (first (fixed .n) (probeOf fixed l s)) (λ w. toDo read fixed l (answered read fixed l s w))
