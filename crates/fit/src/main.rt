@@ -1,14 +1,11 @@
 // The fit program: it reads standard input part by part, and writes each reply before it waits for more.
 use libc::STDIN_FILENO;
 use libc::STDOUT_FILENO;
-use talk::State;
-use text::Reader;
-
-// The program's state, and the line that is due as far as it has come.
-struct Talk {
-    state: State,
-    reader: Reader,
-}
+use talk::Place;
+use talk::Step;
+ghost use mathlib.Core.Path.{_≡_};
+ghost use lib.ListN.{drop};
+ghost use Rattle.talk.specs.Program.{passedOf, stepOf};
 
 fn write_part(out: &[u8], n: usize) {
     if n <= out.len() {
@@ -21,58 +18,53 @@ fn write_reply(out: &[u8; 512], n: usize) {
     write_part(out, n);
 }
 
-// The line ends: what it brings is written.
-fn turned(state: State, reader: Reader) -> State {
+// One line of a part: what it brings is written.
+fn line_fed(p: Place, s: &[u8], from: usize) -> Step
+    ensures { λ r. ⌜ r ≡ stepOf p from (drop from (now (s .entry))) ⌝ }
+{
     let mut out = [0u8; 512];
-    let line = text::finished(reader);
-    let turn = talk::decided(&mut out, state, line);
-    write_reply(&out, turn.count);
-    turn.state
+    let q = talk::stepped(&mut out, p, s, from);
+    write_reply(&out, q.count);
+    q
 }
 
-// A part of the input, line by line; each turn of the loop reads a byte at least.
-fn fed_part(t: Talk, s: &[u8]) -> Talk {
-    let mut state = t.state;
-    let mut reader = t.reader;
+// A part of the input, line by line.
+fn fed_part(p: Place, s: &[u8]) -> Place
+    ensures { λ r. ⌜ r ≡ passedOf p (now (s .entry)) .1 ⌝ }
+{
+    let mut place = p;
     let mut at: usize = 0;
-    let mut left = s.len();
-    while left > 0 {
-        left -= 1;
-        let q = talk::scanned(s, at, reader);
+    while at < s.len() {
+        let q = line_fed(place, s, at);
+        let next = q.place;
         at = q.at;
-        reader = q.reader;
-        if !q.ended {
-            return Talk { state, reader };
-        }
-        let next = turned(state, reader);
-        state = next;
-        reader = text::started(state.due);
-        if state.due == 0 {
-            return Talk { state, reader };
-        }
+        place = next;
     }
-    Talk { state, reader }
+    place
+}
+
+// The input ends: what a line that is begun brings is written.
+fn ended(p: Place) {
+    let mut out = [0u8; 512];
+    let count = talk::closed(&mut out, p);
+    write_reply(&out, count);
 }
 
 fn main() {
     let mut buf = io::large_buffer();
-    let state = talk::begun();
-    let reader = text::started(1);
-    let mut t = Talk { state, reader };
+    let mut place = talk::opened();
     let mut turns = u64::MAX;
     while turns > 0 {
         turns -= 1;
         let got = libc::read(STDIN_FILENO, &mut buf);
         if got < 1 {
-            if text::begun(t.reader) {
-                let last = turned(t.state, t.reader);
-            }
+            ended(place);
             return;
         }
         let n = io::count(got, &buf);
-        let q = fed_part(t, &buf[..n]);
-        t = q;
-        if t.state.due == 0 {
+        let next = fed_part(place, &buf[..n]);
+        place = next;
+        if place.state.due == 0 {
             return;
         }
     }

@@ -184,9 +184,9 @@ fn replaced(fit: Fixed, s: Simplex, u: Vertex, fevals: u64) -> Simplex
     ensures { λ r. ⌜ r ≡ replacedOf fit s u fevals ⌝ }
 {
     let n = fit.n;
-    let mut q = s;
-    q.v[n] = u;
-    headed(fit, q, fevals)
+    let mut next = s;
+    next.v[n] = u;
+    headed(fit, next, fevals)
 }
 
 // The vertex of a new simplex in which coordinate i of the seed, the first vertex, is displaced.

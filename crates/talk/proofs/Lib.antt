@@ -3,3 +3,4 @@ pub mod Lends
 pub mod Scans
 pub mod Shows
 pub mod Program
+pub mod Steps

@@ -1,20 +1,22 @@
--- The program by bytes prints what it prints by lines, and one scan goes on as the bytes do. Assumes nothing.
+-- The program by bytes prints what it prints by lines, and parts and steps go on as the bytes do. Assumes nothing.
 use Prim.Native.Nat.{ℕ, suc, _+_, _-_, _≤_}
 use mathlib.Core.Path.{_≡_, refl, sym, ap, _∙_}
 use mathlib.Core.Bool.{Bool, true, false, not, cond}
-use mathlib.Core.List.{List, [], _∷_, _++_, append-nil}
+use mathlib.Core.List.{List, [], _∷_, _++_, append-nil, append-assoc}
 use native.Mathlib.Omega.{arith}
 use lib.Dec.{eqb}
 use Rattle.text.specs.declared.Line.{Line}
 use Rattle.text.specs.declared.Reader.{Reader}
 use Rattle.text.specs.Forms.{empty, lineOf}
-use Rattle.text.specs.Reader.{startedOf, fedOf, fedAll, finishedOf}
+use Rattle.text.specs.Reader.{startedOf, fedOf, fedAll, finishedOf, begunOf as lineBegun}
 use Rattle.text.proofs.Sums.{by}
 use Rattle.text.proofs.Whole.{reader-laws}
+use Rattle.talk.specs.declared.Place.{Place}
+use Rattle.talk.specs.declared.Scan.{Scan}
 use Rattle.talk.specs.declared.State.{State}
-use Rattle.talk.specs.Talk.{begunOf, decidedOf}
-use Rattle.talk.specs.Program.{lastLine, linesFrom, printed, outputOf, scannedOf, byBytes}
-use Rattle.talk.specs.Laws.{scannedThen, ProgramLaws}
+use Rattle.talk.specs.Talk.{stopped, begunOf, decidedOf}
+use Rattle.talk.specs.Program.{lastLine, linesFrom, printed, outputOf, scannedOf, byBytes, placeOf, firstPlace, afterLine, andThen, passedOf, turnedOf}
+use Rattle.talk.specs.Laws.{from, scannedThen, ProgramLaws}
 
 fed-snoc : (r : Reader) (bs : List ℕ) (b : ℕ) → fedAll r (bs ++ (b ∷ [])) ≡ fedOf (fedAll r bs) b
 unfolding fedAll
@@ -81,7 +83,32 @@ whole bs = by-lines begunOf [] bs
 
 -- ---- a part of the input at a time
 
-scan-at : (i : ℕ) (bs : List ℕ) (r : Reader) → i ≤ scannedOf i bs r .at
+pass-line : (p : Place) (b : ℕ) (bs : List ℕ) → eqb b 10 ≡ true →
+    passedOf p (b ∷ bs) ≡ (let t = afterLine (decidedOf (p .state) (finishedOf (p .reader))) in andThen (t .0) (passedOf (t .1) bs))
+unfolding passedOf
+pass-line p b bs e = rw e
+
+pass-rest : (p : Place) (b : ℕ) (bs : List ℕ) → eqb b 10 ≡ false → passedOf p (b ∷ bs) ≡ passedOf (placeOf (p .state) (fedOf (p .reader) b)) bs
+unfolding passedOf
+pass-rest p b bs e = rw e
+
+part-goes : (p : Place) (bs cs : List ℕ) → from p (bs ++ cs) ≡ passedOf p bs .0 ++ from (passedOf p bs .1) cs
+unfolding passedOf
+part-goes p [] cs = refl
+part-goes p (b ∷ bs) cs =
+    by (eqb b 10)
+    (λ e.
+    let t = afterLine (decidedOf (p .state) (finishedOf (p .reader))) in
+    to-line (p .state) (p .reader) b (bs ++ cs) e
+    ∙ ap (λ (o : List ℕ). t .0 ++ o) (part-goes (t .1) bs cs)
+    ∙ sym (append-assoc (t .0) (passedOf (t .1) bs .0) (from (passedOf (t .1) bs .1) cs))
+    ∙ sym (ap (λ (q : List ℕ × Place). q .0 ++ from (q .1) cs) (pass-line p b bs e)))
+    (λ e.
+    to-rest (p .state) (p .reader) b (bs ++ cs) e
+    ∙ part-goes (placeOf (p .state) (fedOf (p .reader) b)) bs cs
+    ∙ sym (ap (λ (q : List ℕ × Place). q .0 ++ from (q .1) cs) (pass-rest p b bs e)))
+
+pub scan-at : (i : ℕ) (bs : List ℕ) (r : Reader) → i ≤ scannedOf i bs r .at
 unfolding scannedOf
 scan-at i [] r = omega arith
 scan-at i (b ∷ bs) r =
@@ -89,16 +116,35 @@ scan-at i (b ∷ bs) r =
     (λ p. rw p (omega arith))
     (λ p. rw p (omega (arith, scan-at (i + 1) bs (fedOf r b))))
 
-scan-goes : (s : State) (i : ℕ) (bs : List ℕ) (r : Reader) → byBytes s r bs ≡ scannedThen s i bs (scannedOf i bs r)
-unfolding scannedOf
-scan-goes s i [] r = refl
-scan-goes s i (b ∷ bs) r =
+step-goes : (p : Place) (i : ℕ) (bs : List ℕ) → passedOf p bs ≡ scannedThen p i bs (scannedOf i bs (p .reader))
+unfolding scannedOf turnedOf passedOf
+step-goes p i [] = let none : i - i ≡ 0 = omega arith in rw none
+step-goes p i (b ∷ bs) =
     by (eqb b 10)
-    (λ p. let one : i + 1 - i ≡ 1 = omega arith in to-line s r b bs p ∙ rw (p, one))
-    (λ p.
-    let q = scannedOf (i + 1) bs (fedOf r b) in
-    let next : q .at - i ≡ suc (q .at - (i + 1)) = omega (arith, scan-at (i + 1) bs (fedOf r b)) in
-    to-rest s r b bs p ∙ scan-goes s (i + 1) bs (fedOf r b) ∙ rw (p, next))
+    (λ e. let one : i + 1 - i ≡ 1 = omega arith in pass-line p b bs e ∙ rw (e, one))
+    (λ e.
+    let r = fedOf (p .reader) b in
+    let q = scannedOf (i + 1) bs r in
+    let next : q .at - i ≡ suc (q .at - (i + 1)) = omega (arith, scan-at (i + 1) bs r) in
+    pass-rest p b bs e ∙ step-goes (placeOf (p .state) r) (i + 1) bs ∙ rw (e, next))
+
+-- ---- after the stop
+
+decided-stopped : (s : State) (l : Line) → s .due ≡ stopped → decidedOf s l ≡ ([], s)
+unfolding decidedOf
+decided-stopped s l e = rw e
+
+silent : (s : State) (r : Reader) (bs : List ℕ) → s .due ≡ stopped → byBytes s r bs ≡ []
+unfolding byBytes
+silent s r [] e = by (lineBegun r) (λ p. rw (p, decided-stopped s (finishedOf r) e)) (λ p. rw p)
+silent s r (b ∷ bs) e =
+    by (eqb b 10)
+    (λ p. to-line s r b bs p ∙ ap (after bs) (decided-stopped s (finishedOf r) e) ∙ silent s (startedOf (s .due)) bs e)
+    (λ p. to-rest s r b bs p ∙ silent s (fedOf r b) bs e)
+
+first-whole : (bs : List ℕ) → from firstPlace bs ≡ outputOf bs
+unfolding firstPlace
+first-whole bs = whole bs
 
 pub program-laws : ProgramLaws
-program-laws = record { whole = whole; scan-goes = scan-goes }
+program-laws = record { whole = first-whole; part-goes = part-goes; step-goes = step-goes; silent = silent }

@@ -1,24 +1,29 @@
--- What the program prints byte by byte is what 01 says of its lines. Statements only.
+-- What the program prints, part by part and step by step, is what 01 says of its lines. Statements only.
 use Prim.Native.Nat.{ℕ, _-_}
 use mathlib.Core.Path.{_≡_}
-use mathlib.Core.Bool.{cond}
 use mathlib.Core.List.{List, [], _++_}
 use lib.ListN.{drop}
 use Rattle.text.specs.declared.Reader.{Reader}
-use Rattle.text.specs.Reader.{startedOf, finishedOf}
+use Rattle.talk.specs.declared.Place.{Place}
 use Rattle.talk.specs.declared.Scan.{Scan}
 use Rattle.talk.specs.declared.State.{State}
-use Rattle.talk.specs.Talk.{begunOf, decidedOf}
-use Rattle.talk.specs.Program.{outputOf, scannedOf, byBytes}
+use Rattle.talk.specs.Talk.{stopped}
+use Rattle.talk.specs.Program.{outputOf, scannedOf, byBytes, firstPlace, andThen, passedOf, turnedOf}
 
--- what is printed after a scan that began at i: what its line brings, if it has ended, and then the rest
-abbrev pub scannedThen : State → ℕ → List ℕ → Scan → List ℕ
-scannedThen s i bs q =
-    cond (q .ended)
-    (let t = decidedOf s (finishedOf (q .reader)) in t .0 ++ byBytes (t .1) (startedOf (t .1 .due)) (drop (q .at - i) bs))
-    (byBytes s (q .reader) [])
+-- what is printed for bytes from a place on, to the end of the input
+abbrev pub from : Place → List ℕ → List ℕ
+from p bs = byBytes (p .state) (p .reader) bs
 
--- of every input, and of every part of it in every state
+-- what is printed after a scan that began at i: what it brings, and then the rest
+abbrev pub scannedThen : Place → ℕ → List ℕ → Scan → List ℕ × Place
+scannedThen p i bs q = let t = turnedOf p q in andThen (t .0) (passedOf (t .1) (drop (q .at - i) bs))
+
+-- of every input, and of every part of it at every place
 pub record ProgramLaws : Type 0 where
-  pub whole : (bs : List ℕ) → byBytes begunOf (startedOf (begunOf .due)) bs ≡ outputOf bs
-  pub scan-goes : (s : State) (i : ℕ) (bs : List ℕ) (r : Reader) → byBytes s r bs ≡ scannedThen s i bs (scannedOf i bs r)
+  pub whole : (bs : List ℕ) → from firstPlace bs ≡ outputOf bs
+  -- a part, and then the rest
+  pub part-goes : (p : Place) (bs cs : List ℕ) → from p (bs ++ cs) ≡ passedOf p bs .0 ++ from (passedOf p bs .1) cs
+  -- a step, and then the rest of the part
+  pub step-goes : (p : Place) (i : ℕ) (bs : List ℕ) → passedOf p bs ≡ scannedThen p i bs (scannedOf i bs (p .reader))
+  -- "It stops after `bad`, a refused start": nothing more is printed
+  pub silent : (s : State) (r : Reader) (bs : List ℕ) → s .due ≡ stopped → byBytes s r bs ≡ []

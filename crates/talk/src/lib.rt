@@ -9,10 +9,11 @@ use protocol::SimplexOptions;
 use text::Line;
 use text::Reader;
 ghost use mathlib.Core.Path.{_≡_};
+ghost use mathlib.Core.List.{[]};
 ghost use lib.ListN.{drop, length};
 ghost use Rattle.lines.specs.Print.{filled};
 ghost use Rattle.optim.specs.Record.{outcomeOf};
-ghost use Rattle.talk.specs.Program.{scannedOf};
+ghost use Rattle.talk.specs.Program.{scannedOf, byBytes, firstPlace, Stepped};
 ghost use Rattle.talk.specs.Talk.{replyText, Few, Turned, begunOf, followingOf, dueAfter, keptOf, badOf, firstOf, secondOf, startedOf, thirdOf, toldOf, heardOf, decidedOf};
 
 // The state between two lines. `due` is the form of the line that is due, as text's reader has it: 1
@@ -32,6 +33,20 @@ pub struct State {
 pub struct Turn {
     pub count: usize,
     pub state: State,
+}
+
+// Where the program stands in its input: its state, and the line that is due as far as it has come.
+pub struct Place {
+    pub state: State,
+    pub reader: Reader,
+}
+
+// Where one line of a part of the input leads: how far into the part, how many bytes are to be printed,
+// and the next place.
+pub struct Step {
+    pub at: usize,
+    pub count: usize,
+    pub place: Place,
 }
 
 // Where a scan of bytes came to, whether a line feed ended it, and the line as far as it has come.
@@ -264,4 +279,63 @@ pub fn scanned(s: &[u8], from: usize, r: Reader) -> Scan
         ended: false,
         reader,
     }
+}
+
+// Before the first byte.
+pub fn opened() -> Place
+    ensures { λ r. ⌜ r ≡ firstPlace ⌝ }
+{
+    let state = begun();
+    let reader = text::started(state.due);
+    Place { state, reader }
+}
+
+// The line that is due, out of the bytes from a place on: what it brings, or nothing where it goes on
+// past them.
+pub fn stepped(out: &mut [u8; 512], p: Place, s: &[u8], from: usize) -> Step
+    ensures { λ r. ⌜ Stepped p from (drop from (now (s .entry))) (now (out .entry)) (now (out .exit)) r ⌝ }
+{
+    let before = p.state;
+    let read = p.reader;
+    let q = scanned(s, from, read);
+    let at = q.at;
+    let reader = q.reader;
+    if q.ended {
+        let line = text::finished(reader);
+        let turn = decided(out, before, line);
+        let state = turn.state;
+        let next = text::started(state.due);
+        let place = Place {
+            state,
+            reader: next,
+        };
+        return Step {
+            at,
+            count: turn.count,
+            place,
+        };
+    }
+    let place = Place {
+        state: before,
+        reader,
+    };
+    Step {
+        at,
+        count: 0,
+        place,
+    }
+}
+
+// The input ends: how many bytes are to be printed for a line that is begun.
+pub fn closed(out: &mut [u8; 512], p: Place) -> usize
+    ensures { λ n. ⌜ (n ≡ length (byBytes (p .state) (p .reader) [])) × (now (out .exit) ≡ filled (now (out .entry)) (byBytes (p .state) (p .reader) [])) ⌝ }
+{
+    let state = p.state;
+    let reader = p.reader;
+    if text::begun(reader) {
+        let line = text::finished(reader);
+        let turn = decided(out, state, line);
+        return turn.count;
+    }
+    0
 }

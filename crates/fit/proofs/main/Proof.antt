@@ -6,10 +6,10 @@ use Rattle.fit.proofs.main.Statement.{statement}
 use Rattle.fit.proofs.main.Tie as tie
 
 abbrev Inv-loop : tie.InvT-loop
-Inv-loop buf₀ t₀ turns₀ buf t turns = length buf ≡ 65536
+Inv-loop buf₀ place₀ turns₀ buf place turns = length buf ≡ 65536
 
 abbrev μ-loop : tie.MeasureT-loop
-μ-loop buf₀ t₀ turns₀ buf t turns = turns
+μ-loop buf₀ place₀ turns₀ buf place turns = turns
 
 pub main-spec : {M : Type 1} → statement M
 main-spec =
@@ -17,14 +17,11 @@ main-spec =
     (tie.spec Inv-loop μ-loop
     (λ c κs. search needs)
     (λ c κs. search needs)
-    (λ c κs. search needs)
     (λ c. search needs)
     (λ c. search needs)
     (λ c. search needs)
     (λ c κs. search needs)
     (λ c κs. search needs)
-    (λ c κs. search needs)
-    (λ c. search needs)
     (λ c. search needs)
     (λ c. search needs)
     (λ c κs. search needs)
