@@ -8,7 +8,9 @@ use lib.Ieee.{Float, binary64, toBits}
 use Rattle.float.specs.Binary64.{bits, plusZero}
 use Rattle.float.specs.Sqrt.{sqrtOf}
 use Rattle.protocol.specs.declared.SimplexOptions.{SimplexOptions}
-use Rattle.neldermead.specs.Algorithm.{alpha, beta, gamma, delta, displaced}
+use Rattle.linesearch.specs.declared.Trial.{Trial}
+use Rattle.linesearch.specs.Cubic.{interpolateOf}
+use Rattle.neldermead.specs.Method.{alpha, beta, gamma, delta, displaced}
 
 -- what a definition computes, and the bits that it is to have
 pub record Row : Type 0 where
@@ -27,6 +29,17 @@ roots =
     ∷ (sqrtOf (bits 0x4000_0000_0000_0000) gives 0x3FF6_A09E_667F_3BCD)
     ∷ (sqrtOf (bits 0x0000_0000_0000_0001) gives 0x1E60_0000_0000_0000)
     ∷ (sqrtOf (bits 0x7FEF_FFFF_FFFF_FFFF) gives 0x5FEF_FFFF_FFFF_FFFF)
+    ∷ []
+
+abbrev pub trial : ℕ → ℕ → ℕ → Trial
+trial step value slope = record { step = bits step; value = bits value; slope = bits slope }
+
+-- "P cubic, ends 0 and 1, values 0 and 1: slopes 1 and 1 give 0.5 (denominator 0); 2 and 2 give 0.5 (discriminant -3). Ends 0 and 2, values 1 and 1, slopes -2 and 2 give 1."
+abbrev pub cubics : List Row
+cubics =
+    (interpolateOf (trial 0 0 0x3FF0_0000_0000_0000) (trial 0x3FF0_0000_0000_0000 0x3FF0_0000_0000_0000 0x3FF0_0000_0000_0000) gives 0x3FE0_0000_0000_0000)
+    ∷ (interpolateOf (trial 0 0 0x4000_0000_0000_0000) (trial 0x3FF0_0000_0000_0000 0x3FF0_0000_0000_0000 0x4000_0000_0000_0000) gives 0x3FE0_0000_0000_0000)
+    ∷ (interpolateOf (trial 0 0x3FF0_0000_0000_0000 0xC000_0000_0000_0000) (trial 0x4000_0000_0000_0000 0x3FF0_0000_0000_0000 0x4000_0000_0000_0000) gives 0x3FF0_0000_0000_0000)
     ∷ []
 
 -- adaptive, with initial_step 0.5
@@ -59,7 +72,7 @@ edges =
     ∷ []
 
 abbrev pub table : List Row
-table = roots ++ ofFour ++ ofTwo ++ edges
+table = roots ++ cubics ++ ofFour ++ ofTwo ++ edges
 
 -- every row's definition computes to its value
 abbrev pub Computes : Type 0
