@@ -1,1 +1,6 @@
 pub mod Loops
+pub mod Places
+pub mod TiesDense
+pub mod TiesLimited
+pub mod Ties
+pub mod Words
