@@ -16,10 +16,14 @@ use Rattle.hessian.specs.declared.Model.{Model}
 use Rattle.hessian.specs.declared.Sweep.{Sweep}
 use Rattle.hessian.specs.Algorithm.{one}
 
--- what `direction` and `update` want of a model; refusal 1 gives it, and a memory of 0 is none of its refusals
+-- what `update` wants of a model; refusal 1 gives it, and a memory of 0 is none of its refusals
 pub record InRange (m : Model) : Type 0 where
   pub most : m .limited ≡ true → m .memory ≤ 16
   pub within : m .limited ≡ true → m .pairs .count ≤ m .memory
+
+-- what `direction` wants: it holds after an update too, also of a memory of 0, which then has more pairs than memory
+pub record FewPairs (m : Model) : Type 0 where
+  pub few : m .limited ≡ true → m .pairs .count ≤ 16
 
 -- ---- dense
 

@@ -1,7 +1,7 @@
 // The inverse Hessian models of quasinewton.rs: dense (Nocedal and Wright 2006, eq. 6.17) and of limited memory (Algorithm 7.4).
 ghost use mathlib.Core.Path.{_≡_};
 ghost use Prim.Native.Nat.{_≤_, _<_};
-ghost use Rattle.hessian.specs.Step.{InRange, diagonalOf, updateRowOf, updateRowsOf, preparedOf, denseUpdateOf, denseDirectionOf, downOf, allDownOf, upOf, allUpOf, limitedDirectionOf, shiftedOf, poppedOf, roomOf, gammaOf, limitedUpdateOf, noPairsOf, blankOf, newModelOf, directionOf, updateOf};
+ghost use Rattle.hessian.specs.Step.{InRange, FewPairs, diagonalOf, updateRowOf, updateRowsOf, preparedOf, denseUpdateOf, denseDirectionOf, downOf, allDownOf, upOf, allUpOf, limitedDirectionOf, shiftedOf, poppedOf, roomOf, gammaOf, limitedUpdateOf, noPairsOf, blankOf, newModelOf, directionOf, updateOf};
 
 // The matrix, row by row with sixteen columns. `fresh`: no pair has been taken in.
 pub struct Dense {
@@ -351,7 +351,7 @@ pub fn new_model(limited: bool, memory: usize, n: usize) -> Model
 
 // -H g
 pub fn direction(m: Model, g: [f64; 16], n: usize) -> [f64; 16]
-    requires { ⌜ InRange m ⌝ }
+    requires { ⌜ FewPairs m ⌝ }
     requires { ⌜ n ≤ 16 ⌝ }
     ensures { λ r. ⌜ r ≡ directionOf m g n ⌝ }
 {
