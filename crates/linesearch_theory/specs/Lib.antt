@@ -1,2 +1,4 @@
 pub mod Algorithm
 pub mod Follows
+pub mod Laws
+pub mod Counts

@@ -1,9 +1,4 @@
 pub mod Order
-pub mod Algorithm
-pub mod Phases
-pub mod Laws
-pub mod Counts
+pub mod Method
 pub mod Vertices
 pub mod Step
-pub mod Ties
-pub mod Follows

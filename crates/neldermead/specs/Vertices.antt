@@ -12,7 +12,7 @@ use Rattle.vector.specs.Points.{infNormOf, differenceOf, additionOf, quotientOf
 use Rattle.protocol.specs.declared.SimplexOptions.{SimplexOptions}
 use Rattle.neldermead.specs.declared.Vertex.{Vertex}
 use Rattle.neldermead.specs.Order.{insert, inOrder}
-use Rattle.neldermead.specs.Algorithm.{real, displaced, resolution}
+use Rattle.neldermead.specs.Method.{real, displaced, resolution}
 
 -- what an index past the end would read
 abbrev pub noVertex : Vertex

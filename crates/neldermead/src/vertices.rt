@@ -3,7 +3,7 @@ use crate::Vertex;
 use protocol::SimplexOptions;
 ghost use mathlib.Core.Path.{_≡_};
 ghost use Prim.Native.Nat.{_≤_, _<_};
-ghost use Rattle.neldermead.specs.Algorithm.{adapts, beta, gamma, delta, displaced, resolution, better};
+ghost use Rattle.neldermead.specs.Method.{adapts, beta, gamma, delta, displaced, resolution, better};
 ghost use Rattle.neldermead.specs.Vertices.{insertedOf, sortedOf, summedOf, centroidOf, cornerOf, sizeOf, anyFiniteOf, flatOf, convergedOf};
 
 // The least edge of a new simplex.

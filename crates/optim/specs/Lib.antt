@@ -1,6 +1,3 @@
 pub mod Record
 pub mod Answer
 pub mod Start
-pub mod Replies
-pub mod Follows
-pub mod Engine

@@ -2,7 +2,7 @@
 use mathlib.Core.Path.{_≡_, refl, sym, _∙_, ap, subst, subst₂}
 use mathlib.Core.Logic.{_⊎_, inl, inr, ⊎-elim}
 use mathlib.Core.List.{List, [], _∷_, _++_}
-use mathlib.Core.Bool.{Bool, true, false, _||_, cond}
+use mathlib.Core.Bool.{Bool, true, false, cond}
 use Prim.Native.Nat.{ℕ, suc, _+_, _≤_, zero-le}
 use native.Mathlib.Nat.{le-trans, le-of-eq}
 use native.Mathlib.Omega.{arith}
@@ -13,7 +13,8 @@ use Rattle.protocol.specs.declared.Kind.the-variants.{Value, Gradient}
 use Rattle.protocol.specs.Protocol.{Question, Answer, Reply, ask, Job, Fit}
 use Rattle.protocol.specs.Claim.{suits, accepted, ofKind, Exchange, questionIn, Dialogue, given, give, giveAll, begin}
 use Rattle.protocol.specs.Ask.{Ask, finish, query, _>>=_}
-use Rattle.protocol.specs.Rounds.{Ending, atHead, stops, fails, Verdict, goOn, stop, restart, Rounds, reached, limitsOf, openAt, Kept, questionAt, kept, settle, headed, allowed, put, answerTo, begun, excess, engine}
+use Rattle.protocol.specs.PastLimits.{pastLimits}
+use Rattle.protocol.specs.Rounds.{Ending, atHead, stops, fails, Verdict, goOn, stop, restart, Rounds, reached, limitsOf, openAt, Kept, questionAt, kept, settle, headed, allowed, put, answerTo, begun, engine}
 use Rattle.protocol.specs.Bounds.{Costs, Keeps, ofBoth, BoundLaws, questionsOf, QuestionsAtMost}
 use Rattle.protocol.proofs.RoundsCalls.{taken, unmoved}
 
@@ -164,7 +165,7 @@ module _ (R : Rounds Job) (κ : Kind) (bound : ℕ) (f : Fit) (N : BoundLaws R �
   none-yet Gradient = refl
 
   begin-ok : Fine (begin (engine R) f)
-  begin-ok = put-ok 0 0 0 (begun R f) [] (which (excess R (f .maxIter) || excess R (f .maxFevals))) (none-yet κ) (subst (λ (k : ℕ). k ≤ bound) (none-yet κ) zero-le)
+  begin-ok = put-ok 0 0 0 (begun R f) [] (which (pastLimits f)) (none-yet κ) (subst (λ (k : ℕ). k ≤ bound) (none-yet κ) zero-le)
     where
       which : (b : Bool) → Within (ofBoth κ 0 0) (cond b (finish (fails 2 0)) (R .opening (f .job) (f .x0)))
       which true = tt

@@ -2,14 +2,15 @@
 use Prim.Native.Nat.{ℕ, suc, _+_}
 use native.Mathlib.Omega.{arith}
 use mathlib.Core.Path.{_≡_, refl, sym, _∙_, ap, subst}
-use mathlib.Core.Bool.{Bool, true, false, not, _&&_, _||_, cond}
+use mathlib.Core.Bool.{Bool, true, false, not, _&&_, cond}
 use lib.Dec.{eqb}
 use lib.ListN.{length}
 use Rattle.protocol.specs.declared.Kind.the-variants.{Value, Gradient}
 use Rattle.protocol.specs.Protocol.{letter, Answer, Reply, refused, Job, Fit}
 use Rattle.protocol.specs.Claim.{wanted, ofKind, IsSimplex, Claim}
 use Rattle.protocol.specs.Ask.{Ask, finish, query}
-use Rattle.protocol.specs.Rounds.{Ending, atHead, stops, fails, Verdict, goOn, stop, restart, Rounds, Limits, reached, limitsOf, State, openAt, over, Kept, kept, allowed, headed, settle, put, standing, accept, fresh, answerTo, excess, begun, engine}
+use Rattle.protocol.specs.PastLimits.{pastLimits}
+use Rattle.protocol.specs.Rounds.{Ending, atHead, stops, fails, Verdict, goOn, stop, restart, Rounds, Limits, reached, limitsOf, State, openAt, over, Kept, kept, allowed, headed, settle, put, standing, accept, fresh, answerTo, begun, engine}
 use Rattle.protocol.specs.RoundsLaws.{RoundsLaws}
 use Rattle.protocol.specs.Places.{still, ends, text, Steps, StepsLaws, Held, at, closed, Placed, Turns, allowedTurn, headedTurn, settleTurn, putTurn, standingAt, acceptAt, freshAt, answerAt, begunTurn, startAt, engineOfPlaces}
 use Rattle.protocol.specs.Follow.{Follows}
@@ -119,7 +120,7 @@ module _ (R : Rounds Job) (S : Steps R) (L : StepsLaws R S) where
       go false e = stays-fresh r (r .held) a e
 
   begun-text : (f : Fit) → words (begunTurn R S f) ≡ begun R f
-  begun-text f = go (excess R (f .maxIter) || excess R (f .maxFevals))
+  begun-text f = go (pastLimits f)
     where
       go : (b : Bool) → words (cond b (ends (fails 2 0)) (S .opening (f .job) (f .x0))) ≡ cond b (finish (fails 2 0)) (R .opening (f .job) (f .x0))
       go true = refl

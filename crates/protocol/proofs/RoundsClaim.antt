@@ -2,7 +2,7 @@
 use mathlib.Core.Path.{_≡_, refl, sym, _∙_, ap, subst, subst₂}
 use mathlib.Core.Logic.{_⊎_, inl, inr}
 use mathlib.Core.List.{List, [], _∷_, _++_}
-use mathlib.Core.Bool.{Bool, true, false, _||_, cond, false≢true}
+use mathlib.Core.Bool.{Bool, true, false, cond, false≢true}
 use Prim.Native.Nat.{ℕ, suc}
 use lib.ListN.{length}
 use lib.Ieee.{Float}
@@ -16,7 +16,8 @@ use Rattle.protocol.specs.declared.Termination.the-variants.{MaxIteratio
 use Rattle.protocol.specs.Protocol.{Question, Answer, Result, Outcome, fitted, Reply, ask, ended, Job, Fit}
 use Rattle.protocol.specs.Claim.{Started, NotRefused, suits, F64s, Exchange, Numbered, IsSimplex, answersOf, _⊑_, RunsAgain, ForAllowance, Claim}
 use Rattle.protocol.specs.Ask.{Ask, finish, query, heardAt, wp}
-use Rattle.protocol.specs.Rounds.{Ending, atHead, stops, fails, Verdict, goOn, stop, restart, Rounds, Limits, reached, limitsOf, State, openAt, over, Kept, resultAt, allowed, headed, settle, questionAt, put, answerTo, excess, begun, engine}
+use Rattle.protocol.specs.PastLimits.{pastLimits}
+use Rattle.protocol.specs.Rounds.{Ending, atHead, stops, fails, Verdict, goOn, stop, restart, Rounds, Limits, reached, limitsOf, State, openAt, over, Kept, resultAt, allowed, headed, settle, questionAt, put, answerTo, begun, engine}
 use Rattle.protocol.specs.RoundsLaws.{Ends, Opening, RoundsLaws}
 use Rattle.protocol.specs.EngineLaws.{said, EngineLaws}
 use Rattle.protocol.proofs.Texts.{wp-map}
@@ -180,7 +181,7 @@ module _ (R : Rounds Job) (L : RoundsLaws R IsSimplex) where
   begun-case : (f : Fit) (P : Text → Type 0) → Started (engine R) f
       → ((k : Kind) (x : List Float) (c : List Float → Text) → R .opening (f .job) (f .x0) ≡ query k x c → wp [] (query k x c) (Opened R L (f .job)) → P (query k x c))
       → P (begun R f)
-  begun-case f P s h = which (excess R (f .maxIter) || excess R (f .maxFevals)) s
+  begun-case f P s h = which (pastLimits f) s
     where
       open-text : Text
       open-text = R .opening (f .job) (f .x0)

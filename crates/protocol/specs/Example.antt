@@ -1,5 +1,5 @@
 -- A fit as small as can be that still descends: a round halves the first coordinate and takes the point where its value is less. The claim and the laws are tried on it before
--- any algorithm stands. Every job is this fit, and no option is looked at. Below it, three lists of answers to it, and what they come to. Definitions only.
+-- any algorithm stands. Every job is this fit, and no option is looked at but by refusal 2. Below it, three lists of answers to it, and what they come to. Definitions only.
 use Prim.Native.Nat.{ℕ, suc}
 use mathlib.Core.Bool.{Bool, true, false, cond}
 use mathlib.Core.List.{List, [], _∷_, _++_}

@@ -1,6 +1,7 @@
 pub mod Protocol
 pub mod Claim
 pub mod Ask
+pub mod PastLimits
 pub mod Rounds
 pub mod RoundsLaws
 pub mod EngineLaws

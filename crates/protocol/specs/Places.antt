@@ -2,7 +2,7 @@
 -- it owes: what a place has still to do, in the words of the text, and that after any answer it has the rest of it to do. Definitions only.
 use Prim.Native.Nat.{ℕ, suc, _+_}
 use mathlib.Core.Path.{_≡_}
-use mathlib.Core.Bool.{Bool, true, false, not, _&&_, _||_, cond}
+use mathlib.Core.Bool.{Bool, true, false, not, _&&_, cond}
 use mathlib.Core.Logic.{_⊎_, inl, inr}
 use mathlib.Core.List.{List}
 use lib.Dec.{eqb}
@@ -16,7 +16,8 @@ use Rattle.protocol.specs.declared.GradientOptions.{GradientOptions}
 use Rattle.protocol.specs.Protocol.{letter, Answer, fitted, Reply, ask, ended, refused, Job, simplex, bfgs, lbfgs, Fit, Engine}
 use Rattle.protocol.specs.Claim.{wanted, ofKind}
 use Rattle.protocol.specs.Ask.{Ask, finish, query}
-use Rattle.protocol.specs.Rounds.{Ending, atHead, stops, fails, Verdict, goOn, stop, restart, Rounds, Limits, reached, limitsOf, resultAt, questionAt, excess}
+use Rattle.protocol.specs.PastLimits.{pastLimits}
+use Rattle.protocol.specs.Rounds.{Ending, atHead, stops, fails, Verdict, goOn, stop, restart, Rounds, Limits, reached, limitsOf, resultAt, questionAt}
 use Rattle.protocol.specs.Fits.{mapEnding, Positions, fits}
 
 -- where a step leads: to a place where a question stands open, or to the text's end
@@ -121,9 +122,9 @@ module _ (R : Rounds Job) (S : Steps R) where
   abbrev pub answerAt : Placed (S .Place) → Answer → Reply × Placed (S .Place)
   answerAt r a = cond (not (eqb (r .last) 0) && eqb (a .number) (r .last)) (standingAt (r .last) (r .held), r) (freshAt r (r .held) a)
 
-  -- an allowance above 1,000,000 is refused with 2, before all that the opening refuses
+  -- refusal 2 comes before all that the opening refuses
   abbrev pub begunTurn : Fit → Turns
-  begunTurn f = cond (excess R (f .maxIter) || excess R (f .maxFevals)) (ends (fails 2 0)) (S .opening (f .job) (f .x0))
+  begunTurn f = cond (pastLimits f) (ends (fails 2 0)) (S .opening (f .job) (f .x0))
 
   abbrev pub startAt : Fit → Reply × Placed (S .Place)
   startAt f = putTurn (limitsOf f) 0 0 0 (begunTurn f)

@@ -3,10 +3,9 @@
 -- and max_fevals, here (`headed`) and nowhere else, and then the round. The engine adds what every fit has: the number last accepted, repeats, refusals 15 to 17, and the
 -- counts of accepted answers. Definitions only.
 use Prim.Native.Nat.{ℕ, suc, _+_}
-use mathlib.Core.Bool.{Bool, true, false, not, _&&_, _||_, cond}
+use mathlib.Core.Bool.{Bool, true, false, not, _&&_, cond}
 use mathlib.Core.List.{List}
-use mathlib.Core.Option.{Option, none, some}
-use lib.Dec.{ltb, leb, eqb}
+use lib.Dec.{leb, eqb}
 use lib.ListN.{length}
 use lib.Ieee.{Float}
 use Rattle.protocol.specs.declared.Kind.{Kind}
@@ -16,6 +15,7 @@ use Rattle.protocol.specs.declared.Termination.the-variants.{MaxIteratio
 use Rattle.protocol.specs.Protocol.{letter, Question, Answer, converges, Result, fitted, Reply, ask, ended, refused, Job, Fit, Engine}
 use Rattle.protocol.specs.Claim.{wanted, ofKind, Limit, limit, unlimited, iterAllowance, fevalsAllowance}
 use Rattle.protocol.specs.Ask.{Ask, finish, query}
+use Rattle.protocol.specs.PastLimits.{pastLimits}
 
 -- how a text of a fit ends
 pub data Ending (Position : Type 0) : Type 0 where
@@ -124,13 +124,9 @@ module _ (R : Rounds Job) where
   abbrev pub answerTo : Kept (R .Position) → Answer → Reply × Kept (R .Position)
   answerTo r a = cond (isRepeat r a) (standing (r .last) (r .state), r) (fresh r (r .state) a)
 
-  -- an allowance above 1,000,000 is refused with 2, before all that the opening refuses
-  abbrev pub excess : Option ℕ → Bool
-  excess none = false
-  excess (some k) = ltb 1000000 k
-
+  -- refusal 2 comes before all that the opening refuses
   abbrev pub begun : Fit → Ask (Ending (R .Position))
-  begun f = cond (excess (f .maxIter) || excess (f .maxFevals)) (finish (fails 2 0)) (R .opening (f .job) (f .x0))
+  begun f = cond (pastLimits f) (finish (fails 2 0)) (R .opening (f .job) (f .x0))
 
   abbrev pub engine : Engine
   engine = record { Record = Kept (R .Position); start = λ f. put (limitsOf f) 0 0 0 (begun f); answer = answerTo }

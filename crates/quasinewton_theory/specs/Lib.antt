@@ -1,1 +1,3 @@
 pub mod Algorithm
+pub mod Laws
+pub mod Counts

@@ -1,5 +1,5 @@
 -- `neldermead::vertices::better_of` meets its contract: each return follows the calls and tests that led to it. Assumes nothing.
-use Rattle.neldermead.specs.Algorithm.{better}
+use Rattle.neldermead.specs.Method.{better}
 use Rattle.neldermead.proofs.vertices.better_of.Statement.{statement}
 use Rattle.neldermead.proofs.vertices.better_of.Tie as tie
 

@@ -1,6 +1,6 @@
 -- `neldermead::vertices::contraction` meets its contract: each return follows the calls and tests that led to it. Assumes nothing.
 use borrow.Author.Needs.{needs}
-use Rattle.neldermead.specs.Algorithm.{gamma}
+use Rattle.neldermead.specs.Method.{gamma}
 use Rattle.neldermead.proofs.vertices.contraction.Statement.{statement}
 use Rattle.neldermead.proofs.vertices.contraction.Tie as tie
 

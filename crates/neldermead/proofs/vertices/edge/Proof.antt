@@ -1,6 +1,6 @@
 -- `neldermead::vertices::edge` meets its contract: each return follows the calls and tests that led to it. Assumes nothing.
 use borrow.Author.Needs.{needs}
-use Rattle.neldermead.specs.Algorithm.{displaced}
+use Rattle.neldermead.specs.Method.{displaced}
 use lib.Ieee.{ofBits}
 use Rattle.neldermead.proofs.vertices.edge.Statement.{statement}
 use Rattle.neldermead.proofs.vertices.edge.Tie as tie

@@ -1,6 +1,6 @@
 -- `neldermead::vertices::expansion` meets its contract: each return follows the calls and tests that led to it. Assumes nothing.
 use borrow.Author.Needs.{needs}
-use Rattle.neldermead.specs.Algorithm.{beta}
+use Rattle.neldermead.specs.Method.{beta}
 use Rattle.neldermead.proofs.vertices.expansion.Statement.{statement}
 use Rattle.neldermead.proofs.vertices.expansion.Tie as tie
 

@@ -1,6 +1,6 @@
 -- `neldermead::vertices::floor` meets its contract: each return follows the calls and tests that led to it. Assumes nothing.
 use mathlib.Core.Path.{refl}
-use Rattle.neldermead.specs.Algorithm.{resolution}
+use Rattle.neldermead.specs.Method.{resolution}
 use Rattle.neldermead.proofs.vertices.floor.Statement.{statement}
 use Rattle.neldermead.proofs.vertices.floor.Tie as tie
 

@@ -1,6 +1,6 @@
 -- `neldermead::vertices::reduction` meets its contract: each return follows the calls and tests that led to it. Assumes nothing.
 use borrow.Author.Needs.{needs}
-use Rattle.neldermead.specs.Algorithm.{delta}
+use Rattle.neldermead.specs.Method.{delta}
 use Rattle.neldermead.proofs.vertices.reduction.Statement.{statement}
 use Rattle.neldermead.proofs.vertices.reduction.Tie as tie
 

@@ -1,0 +1,3 @@
+pub mod RefusalsLists
+pub mod Refusals
+pub mod Fits

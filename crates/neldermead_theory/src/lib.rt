@@ -1,0 +1,1 @@
+// The theory of the simplex fit stands in specs/ and proofs/: no code.

@@ -1,0 +1,112 @@
+-- The first demand, of the jobs that are there: `answers`, `starts`. Assumes nothing.
+use Prim.Native.Nat.{ℕ, _+_, _≤_}
+use mathlib.Core.Path.{_≡_, refl, sym, _∙_, subst}
+use mathlib.Core.Bool.{Bool, true, false, not, cond}
+use mathlib.Core.List.{List}
+use native.Mathlib.Omega.{arith}
+use lib.Dec.{T, eqb, ltb, leb}
+use borrow.Author.Tests.{eqb-false}
+use lib.ListN.{length, getD}
+use lib.Ieee.{Float, nan}
+use Rattle.vector.specs.Points.{fromSliceOf, allFiniteOf}
+use Rattle.protocol.specs.declared.SimplexOptions.{SimplexOptions}
+use Rattle.protocol.specs.declared.Allowances.{Allowances}
+use Rattle.protocol.specs.Protocol.{Reply}
+use Rattle.neldermead.specs.Step.{notFinite}
+use Rattle.optim.specs.declared.Record.{Record}
+use Rattle.optim.specs.Record.{simplexMark, lastAsking, blankOf, validOf}
+use Rattle.optim.specs.declared.Refusal.{Refusal}
+use Rattle.optim.specs.Answer.{refusedOf, overOf, standingSimplexOf, standingDifferencesOf, standingOf, repeatsOf, steppedOf, takenOf, suitsOf, heardOf, answerOf}
+use Rattle.optim.specs.Start.{begunRecordOf, differencesOf, pastLimitsOf, toleranceOf, positiveOf, startRefusalOf, simplexRecordOf, simplexOf}
+use Rattle.optim_theory.specs.Replies.{InScope, turnsAway, Answers, Starts}
+
+-- what holds of both arms holds of a test
+either : (P : Reply × Record → Type 0) (b : Bool) (x y : Reply × Record) → P x → P y → P (cond b x y)
+either P true x y p q = p
+either P false x y p q = q
+
+-- a test that is true leaves its first arm
+taken-arm : (b : Bool) (x y : Reply × Record) → b ≡ true → cond b x y ≡ x
+taken-arm true x y e = refl
+taken-arm false x y e = absurd (subst T (sym e) tt)
+
+-- a reply in scope, with the record r where the answer is turned away
+abbrev Fine : Record → Reply × Record → Type 0
+Fine r a = InScope (a .0) × (T (turnsAway (a .0)) → a .1 ≡ r)
+
+-- what stands is in scope, and turns nothing away
+stands : (r q : Record) → Fine r (standingOf q)
+unfolding standingOf standingSimplexOf standingDifferencesOf
+stands r q =
+    either (Fine r) (eqb (q .job) simplexMark) _ _
+    (either (Fine r) (leb (q .simplex .phase) lastAsking) _ _ (tt, λ t. absurd t)
+    (either (Fine r) (eqb (q .simplex .phase) notFinite) _ _ ((omega arith, omega arith), λ t. absurd t) (tt, λ t. absurd t)))
+    (either (Fine r) (eqb (q .diff .at) (q .n)) _ _ (tt, λ t. absurd t) (tt, λ t. absurd t))
+
+-- it comes with its record
+pub stands-keeps : (r : Record) → standingOf r .1 ≡ r
+unfolding standingOf standingSimplexOf standingDifferencesOf
+stands-keeps r =
+    either (λ a. a .1 ≡ r) (eqb (r .job) simplexMark) _ _
+    (either (λ a. a .1 ≡ r) (leb (r .simplex .phase) lastAsking) _ _ refl (either (λ a. a .1 ≡ r) (eqb (r .simplex .phase) notFinite) _ _ refl refl))
+    (either (λ a. a .1 ≡ r) (eqb (r .diff .at) (r .n)) _ _ refl refl)
+
+refuses : (r : Record) (k d : ℕ) → 1 ≤ k → k ≤ 20 → Fine r (refusedOf r k d)
+refuses r k d l h = ((l, h), λ t. refl)
+
+fine : (r : Record) (number kind : ℕ) (words : List Float) → Fine r (answerOf r number kind words)
+unfolding answerOf heardOf takenOf
+fine r number kind words =
+    either (Fine r) (validOf r) _ _
+    (either (Fine r) (repeatsOf (r .accepted) number) _ _ (stands r r)
+    (either (Fine r) (overOf r) _ _ (refuses r 15 0 (omega arith) (omega arith))
+    (either (Fine r) (not (eqb number (r .accepted + 1))) _ _ (refuses r 16 0 (omega arith) (omega arith))
+    (either (Fine r) (not (suitsOf kind (length words))) _ _ (refuses r 17 0 (omega arith) (omega arith)) (stands r (steppedOf r (getD words 0 nan)))))))
+    (refuses r 1 0 (omega arith) (omega arith))
+
+repeated : (r : Record) (number kind : ℕ) (words : List Float) → validOf r ≡ true → repeatsOf (r .accepted) number ≡ true → answerOf r number kind words ≡ standingOf r
+unfolding answerOf heardOf
+repeated r number kind words v e =
+    taken-arm (validOf r) _ _ v ∙ taken-arm (repeatsOf (r .accepted) number) _ _ e
+
+pub answers : Answers
+answers = record {
+  in-scope = λ r number kind words. fine r number kind words .0;
+  refused-keeps = λ r number kind words. fine r number kind words .1;
+  repeat-keeps = λ r number kind words v e.
+      let s = repeated r number kind words v e in
+      (λ i. s i .0, subst (λ (a : Reply × Record). a .1 ≡ r) (sym s) (stands-keeps r));
+}
+
+-- a start's refusal, where there is one, is one of 01's
+low : (b : Bool) (x y : Refusal) → x .number ≤ 20 → y .number ≤ 20 → cond b x y .number ≤ 20
+low true x y p q = p
+low false x y p q = q
+
+refusal-low : (count : ℕ) (o : SimplexOptions) (a : Allowances) → startRefusalOf count o a .number ≤ 20
+unfolding startRefusalOf
+refusal-low count o a =
+    low (pastLimitsOf count o a) _ _ (omega arith)
+    (low (not (toleranceOf (o .xtol))) _ _ (omega arith)
+    (low (not (toleranceOf (o .ftol))) _ _ (omega arith)
+    (low (not (positiveOf (o .step))) _ _ (omega arith) (low (eqb count 0) _ _ (omega arith) (omega arith)))))
+
+pub starts : Starts
+unfolding differencesOf simplexOf
+starts = record {
+  differences-in-scope = λ x. either (λ a. InScope (a .0)) (ltb 16 (length x)) _ _ (omega arith, omega arith) (stands (begunRecordOf x) (begunRecordOf x) .0);
+  simplex-in-scope = λ x o a. refused-or (startRefusalOf (length x) o a) (refusal-low (length x) o a) _
+      (either (λ (z : Reply × Record). InScope (z .0)) (not (allFiniteOf (fromSliceOf x (length x)) (length x))) _ _ (omega arith, omega arith)
+      (let r = simplexRecordOf (fromSliceOf x (length x)) (length x) o a in stands r r .0));
+}
+  where
+    refused-or : (why : Refusal) → why .number ≤ 20 → (y : Reply × Record) → InScope (y .0)
+        → InScope (cond (not (eqb (why .number) 0)) (refusedOf blankOf (why .number) (why .detail)) y .0)
+    refused-or why h y p = go (eqb (why .number) 0) refl
+      where
+        go : (b : Bool) → eqb (why .number) 0 ≡ b → InScope (cond (not b) (refusedOf blankOf (why .number) (why .detail)) y .0)
+        go true e = p
+        go false e = (above (why .number) (eqb-false _ _ e), h)
+          where
+            above : (k : ℕ) → (k ≡ 0 → ⊥) → 1 ≤ k
+            above k d = omega arith

@@ -1,0 +1,1 @@
+// The theory of the engine stands in specs/ and proofs/: no code.

@@ -1,0 +1,7 @@
+pub mod FirstStep
+pub mod Steepest
+pub mod Directions
+pub mod SearchLong
+pub mod LawsSearch
+pub mod Laws
+pub mod Counts
