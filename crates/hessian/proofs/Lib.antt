@@ -4,3 +4,4 @@ pub mod TiesDense
 pub mod TiesLimited
 pub mod Ties
 pub mod Words
+pub mod Range

@@ -17,7 +17,7 @@ use Rattle.vector.specs.Lists.{first, rowOf, rowsOf, dot, negation}
 use Rattle.vector.proofs.First.{upto-same, point-laws, ties}
 use Rattle.hessian.specs.declared.Dense.{Dense}
 use Rattle.hessian.specs.Algorithm.{DenseInvHessian, one, entry, diagonal, newDense, denseDirection, prepared, rankTwo, denseUpdate}
-use Rattle.hessian.specs.Step.{diagonalOf, change, rowUpdatedOf, rowsUpdatedOf, preparedOf, denseUpdateOf, denseDirectionOf}
+use Rattle.hessian.specs.Step.{diagonalOf, change, updateRowOf, updateRowsOf, preparedOf, denseUpdateOf, denseDirectionOf}
 use Rattle.hessian.specs.Ties.{readDense}
 use Rattle.hessian.proofs.Places.{stored-length, stored-other, stored-at, at-upto}
 
@@ -57,38 +57,38 @@ read-diagonal c n small = upto-same _ _ n (λ i a. upto-same _ _ n (λ j b. diag
 
 -- ---- the rank-two update
 module _ (s hy : List Float) (rho coef : Float) (n : ℕ) (small : n ≤ 16) where
-  row-length : (h : List Float) (i : ℕ) → length (rowUpdatedOf h i s hy rho coef n) ≡ length h
-  unfolding rowUpdatedOf
+  row-length : (h : List Float) (i : ℕ) → length (updateRowOf h i s hy rho coef n) ≡ length h
+  unfolding updateRowOf
   row-length h i = stored-length nan (λ x j. x ⊕ change s hy rho coef i j) (λ j. i * 16 + j) h n
 
-  row-other : (h : List Float) (i k : ℕ) → ((j : ℕ) → j < n → k ≡ i * 16 + j → ⊥) → at (rowUpdatedOf h i s hy rho coef n) k ≡ at h k
-  unfolding rowUpdatedOf
+  row-other : (h : List Float) (i k : ℕ) → ((j : ℕ) → j < n → k ≡ i * 16 + j → ⊥) → at (updateRowOf h i s hy rho coef n) k ≡ at h k
+  unfolding updateRowOf
   row-other h i k free = stored-other nan (λ x j. x ⊕ change s hy rho coef i j) (λ j. i * 16 + j) h n k free
 
-  row-at : (h : List Float) (i j : ℕ) → length h ≡ 256 → i < 16 → j < n → at (rowUpdatedOf h i s hy rho coef n) (i * 16 + j) ≡ at h (i * 16 + j) ⊕ change s hy rho coef i j
-  unfolding rowUpdatedOf
+  row-at : (h : List Float) (i j : ℕ) → length h ≡ 256 → i < 16 → j < n → at (updateRowOf h i s hy rho coef n) (i * 16 + j) ≡ at h (i * 16 + j) ⊕ change s hy rho coef i j
+  unfolding updateRowOf
   row-at h i j long a b = stored-at nan (λ x j. x ⊕ change s hy rho coef i j) (λ j. i * 16 + j) h (λ a b e. omega arith) n j b (λ k t. omega arith)
 
-  pub rows-length : (h : List Float) (m : ℕ) → length (rowsUpdatedOf h s hy rho coef n m) ≡ length h
-  unfolding rowsUpdatedOf
+  pub rows-length : (h : List Float) (m : ℕ) → length (updateRowsOf h s hy rho coef n m) ≡ length h
+  unfolding updateRowsOf
   rows-length h zero = refl
-  rows-length h (suc m) = row-length (rowsUpdatedOf h s hy rho coef n m) m ∙ rows-length h m
+  rows-length h (suc m) = row-length (updateRowsOf h s hy rho coef n m) m ∙ rows-length h m
 
-  pub rows-other : (h : List Float) (m k : ℕ) → ((i j : ℕ) → i < m → j < n → k ≡ i * 16 + j → ⊥) → at (rowsUpdatedOf h s hy rho coef n m) k ≡ at h k
-  unfolding rowsUpdatedOf
+  pub rows-other : (h : List Float) (m k : ℕ) → ((i j : ℕ) → i < m → j < n → k ≡ i * 16 + j → ⊥) → at (updateRowsOf h s hy rho coef n m) k ≡ at h k
+  unfolding updateRowsOf
   rows-other h zero k free = refl
   rows-other h (suc m) k free =
-      row-other (rowsUpdatedOf h s hy rho coef n m) m k (λ j b e. free m j (le-refl (suc m)) b e)
+      row-other (updateRowsOf h s hy rho coef n m) m k (λ j b e. free m j (le-refl (suc m)) b e)
       ∙ rows-other h m k (λ i j a b e. free i j (le-trans a (le-suc m)) b e)
 
-  rows-at : (h : List Float) (m i j : ℕ) → length h ≡ 256 → i < m → m ≤ 16 → j < n → at (rowsUpdatedOf h s hy rho coef n m) (i * 16 + j) ≡ at h (i * 16 + j) ⊕ change s hy rho coef i j
-  unfolding rowsUpdatedOf
+  rows-at : (h : List Float) (m i j : ℕ) → length h ≡ 256 → i < m → m ≤ 16 → j < n → at (updateRowsOf h s hy rho coef n m) (i * 16 + j) ≡ at h (i * 16 + j) ⊕ change s hy rho coef i j
+  unfolding updateRowsOf
   rows-at h zero i j long a few b = absurd (not-suc-le-zero a)
   rows-at h (suc m) i j long a few b = elim (eq-or-lt-of-le (le-of-suc-le-suc a)) [
     | inl e ↦ rw e
-        (row-at (rowsUpdatedOf h s hy rho coef n m) m j (rows-length h m ∙ long) (omega arith) b
+        (row-at (updateRowsOf h s hy rho coef n m) m j (rows-length h m ∙ long) (omega arith) b
         ∙ ap (λ x. x ⊕ change s hy rho coef m j) (rows-other h m (m * 16 + j) (λ p q t u w. omega arith)))
-    | inr l ↦ row-other (rowsUpdatedOf h s hy rho coef n m) m (i * 16 + j) (λ q u w. omega arith)
+    | inr l ↦ row-other (updateRowsOf h s hy rho coef n m) m (i * 16 + j) (λ q u w. omega arith)
         ∙ rows-at h m i j long l (omega arith) b
   ]
 
@@ -96,13 +96,13 @@ module _ (s hy : List Float) (rho coef : Float) (n : ℕ) (small : n ≤ 16) whe
   unfolding rowsOf rowOf
   entry-of h i j a b = ap (λ (r : List Float). at r j) (at-upto (rowOf n h) [] n i a) ∙ at-upto (λ k. at h (i * 16 + k)) nan n j b
 
-  added : (h : List Float) (i j : ℕ) → length h ≡ 256 → i < n → j < n → at (rowsUpdatedOf h s hy rho coef n n) (i * 16 + j)
+  added : (h : List Float) (i j : ℕ) → length h ≡ 256 → i < n → j < n → at (updateRowsOf h s hy rho coef n n) (i * 16 + j)
       ≡ entry (rowsOf n h) i j ⊕ (neg rho ⊗ (at (first n s) i ⊗ at (first n hy) j ⊕ at (first n hy) i ⊗ at (first n s) j) ⊕ coef ⊗ at (first n s) i ⊗ at (first n s) j)
   added h i j long a b =
       rw (entry-of h i j a b, point-laws .read n s i a, point-laws .read n s j b, point-laws .read n hy i a, point-laws .read n hy j b)
       (rows-at h n i j long a small b)
 
-  read-rows : (h : List Float) → length h ≡ 256 → rowsOf n (rowsUpdatedOf h s hy rho coef n n) ≡ rankTwo (rowsOf n h) (first n s) (first n hy) rho coef
+  read-rows : (h : List Float) → length h ≡ 256 → rowsOf n (updateRowsOf h s hy rho coef n n) ≡ rankTwo (rowsOf n h) (first n s) (first n hy) rho coef
   unfolding rankTwo rowsOf rowOf
   read-rows h long = rw (point-laws .listed n s) (upto-same _ _ n (λ i a. upto-same _ _ n (λ j b. added h i j long a b)))
 

@@ -16,10 +16,14 @@ use Rattle.hessian.specs.declared.Model.{Model}
 use Rattle.hessian.specs.declared.Sweep.{Sweep}
 use Rattle.hessian.specs.Algorithm.{one}
 
--- what `direction` and `update` want of a model; refusal 1 gives it, and a memory of 0 is none of its refusals
+-- what `update` wants of a model; refusal 1 gives it, and a memory of 0 is none of its refusals
 pub record InRange (m : Model) : Type 0 where
   pub most : m .limited ≡ true → m .memory ≤ 16
   pub within : m .limited ≡ true → m .pairs .count ≤ m .memory
+
+-- what `direction` wants: it holds after an update too, also of a memory of 0, which then has more pairs than memory
+pub record FewPairs (m : Model) : Type 0 where
+  pub few : m .limited ≡ true → m .pairs .count ≤ 16
 
 -- ---- dense
 
@@ -32,12 +36,12 @@ abbrev pub change : List Float → List Float → Float → Float → ℕ → �
 change s hy rho coef i j = neg rho ⊗ (at s i ⊗ at hy j ⊕ at hy i ⊗ at s j) ⊕ coef ⊗ at s i ⊗ at s j
 
 -- the first columns of row i
-unfoldable pub rowUpdatedOf : List Float → ℕ → List Float → List Float → Float → Float → ℕ → List Float
-rowUpdatedOf h i s hy rho coef = fold (λ w j. set w (i * 16 + j) (at w (i * 16 + j) ⊕ change s hy rho coef i j)) h
+unfoldable pub updateRowOf : List Float → ℕ → List Float → List Float → Float → Float → ℕ → List Float
+updateRowOf h i s hy rho coef = fold (λ w j. set w (i * 16 + j) (at w (i * 16 + j) ⊕ change s hy rho coef i j)) h
 
 -- the first rows, n columns of each
-unfoldable pub rowsUpdatedOf : List Float → List Float → List Float → Float → Float → ℕ → ℕ → List Float
-rowsUpdatedOf h s hy rho coef n = fold (λ w i. rowUpdatedOf w i s hy rho coef n) h
+unfoldable pub updateRowsOf : List Float → List Float → List Float → Float → Float → ℕ → ℕ → List Float
+updateRowsOf h s hy rho coef n = fold (λ w i. updateRowOf w i s hy rho coef n) h
 
 unfoldable pub preparedOf : Dense → Float → List Float → ℕ → List Float
 preparedOf d sy y n =
@@ -49,7 +53,7 @@ denseUpdateOf d s y n =
     let h = preparedOf d sy y n in
     let rho = one ⊘ sy in
     let hy = matVecOf h y n n in
-    record { fresh = false; h = rowsUpdatedOf h s hy rho (rho ⊗ rho ⊗ dotOf y hy n ⊕ rho) n n }
+    record { fresh = false; h = updateRowsOf h s hy rho (rho ⊗ rho ⊗ dotOf y hy n ⊕ rho) n n }
 
 unfoldable pub denseDirectionOf : Dense → List Float → ℕ → List Float
 denseDirectionOf d g n = negationOf (matVecOf (d .h) g n n) n
@@ -120,7 +124,6 @@ unfolding noPairsOf
 blankOf = record { limited = false; memory = 0; dense = record { fresh = false; h = replicate 256 plusZero }; pairs = noPairsOf plusZero }
 
 unfoldable pub newModelOf : Bool → ℕ → ℕ → Model
-unfolding blankOf
 newModelOf limited memory n =
     cond limited
     (record { limited = true; memory = memory; dense = blankOf .dense; pairs = noPairsOf one })

@@ -1,7 +1,7 @@
 // The inverse Hessian models of quasinewton.rs: dense (Nocedal and Wright 2006, eq. 6.17) and of limited memory (Algorithm 7.4).
 ghost use mathlib.Core.Path.{_≡_};
 ghost use Prim.Native.Nat.{_≤_, _<_};
-ghost use Rattle.hessian.specs.Step.{InRange, diagonalOf, rowUpdatedOf, rowsUpdatedOf, preparedOf, denseUpdateOf, denseDirectionOf, downOf, allDownOf, upOf, allUpOf, limitedDirectionOf, shiftedOf, poppedOf, roomOf, gammaOf, limitedUpdateOf, noPairsOf, blankOf, newModelOf, directionOf, updateOf};
+ghost use Rattle.hessian.specs.Step.{InRange, FewPairs, diagonalOf, updateRowOf, updateRowsOf, preparedOf, denseUpdateOf, denseDirectionOf, downOf, allDownOf, upOf, allUpOf, limitedDirectionOf, shiftedOf, poppedOf, roomOf, gammaOf, limitedUpdateOf, noPairsOf, blankOf, newModelOf, directionOf, updateOf};
 
 // The matrix, row by row with sixteen columns. `fresh`: no pair has been taken in.
 pub struct Dense {
@@ -52,50 +52,38 @@ fn diagonal(c: f64, n: usize) -> [f64; 256]
 }
 
 // Row i of H - rho (s hy' + hy s') + coef s s'.
-fn row_updated(
-    h: [f64; 256],
+fn update_row(
+    h: &mut [f64; 256],
     i: usize,
     s: [f64; 16],
     hy: [f64; 16],
     rho: f64,
     coef: f64,
     n: usize,
-) -> [f64; 256]
+)
     requires { ⌜ i < 16 ⌝ }
     requires { ⌜ n ≤ 16 ⌝ }
-    ensures { λ r. ⌜ r ≡ rowUpdatedOf h i s hy rho coef n ⌝ }
+    ensures { λ _. ⌜ now (h .exit) ≡ updateRowOf (now (h .entry)) i s hy rho coef n ⌝ }
 {
     let si = s[i];
     let hyi = hy[i];
-    let mut w = h;
     let mut j: usize = 0;
     while j < n {
         let k = i * 16 + j;
-        w[k] = w[k] + (-rho * (si * hy[j] + hyi * s[j]) + coef * si * s[j]);
+        h[k] = h[k] + (-rho * (si * hy[j] + hyi * s[j]) + coef * si * s[j]);
         j += 1;
     }
-    w
 }
 
-fn rows_updated(
-    h: [f64; 256],
-    s: [f64; 16],
-    hy: [f64; 16],
-    rho: f64,
-    coef: f64,
-    n: usize,
-) -> [f64; 256]
+fn update_rows(h: &mut [f64; 256], s: [f64; 16], hy: [f64; 16], rho: f64, coef: f64, n: usize)
     requires { ⌜ n ≤ 16 ⌝ }
-    ensures { λ r. ⌜ r ≡ rowsUpdatedOf h s hy rho coef n n ⌝ }
+    ensures { λ _. ⌜ now (h .exit) ≡ updateRowsOf (now (h .entry)) s hy rho coef n n ⌝ }
 {
-    let mut w = h;
     let mut i: usize = 0;
     while i < n {
-        let next = row_updated(w, i, s, hy, rho, coef, n);
-        w = next;
+        update_row(h, i, s, hy, rho, coef, n);
         i += 1;
     }
-    w
 }
 
 // H before an update: the first one finds it scaled, if sy and yy are positive (eq. 6.20).
@@ -122,13 +110,13 @@ fn dense_update(d: Dense, s: [f64; 16], y: [f64; 16], n: usize) -> Dense
     ensures { λ r. ⌜ r ≡ denseUpdateOf d s y n ⌝ }
 {
     let sy = vector::dot(s, y, n);
-    let h = prepared(d, sy, y, n);
+    let mut h = prepared(d, sy, y, n);
     let rho = 1.0 / sy;
     let hy = vector::mat_vec(&h, y, n);
     let yhy = vector::dot(y, hy, n);
     let coef = rho * rho * yhy + rho;
-    let w = rows_updated(h, s, hy, rho, coef, n);
-    Dense { fresh: false, h: w }
+    update_rows(&mut h, s, hy, rho, coef, n);
+    Dense { fresh: false, h }
 }
 
 // -H g
@@ -320,12 +308,16 @@ fn no_pairs(gamma: f64) -> Limited
 pub fn blank() -> Model
     ensures { λ r. ⌜ r ≡ blankOf ⌝ }
 {
-    let h = [0.0; 256];
+    let zeros = [0.0; 256];
+    let dense = Dense {
+        fresh: false,
+        h: zeros,
+    };
     let pairs = no_pairs(0.0);
     Model {
         limited: false,
         memory: 0,
-        dense: Dense { fresh: false, h },
+        dense,
         pairs,
     }
 }
@@ -335,32 +327,31 @@ pub fn new_model(limited: bool, memory: usize, n: usize) -> Model
     requires { ⌜ n ≤ 16 ⌝ }
     ensures { λ r. ⌜ r ≡ newModelOf limited memory n ⌝ }
 {
+    let none = blank();
     if limited {
-        let none = [0.0; 256];
+        let dense = none.dense;
         let pairs = no_pairs(1.0);
         return Model {
             limited: true,
             memory,
-            dense: Dense {
-                fresh: false,
-                h: none,
-            },
+            dense,
             pairs,
         };
     }
     let h = diagonal(1.0, n);
-    let pairs = no_pairs(0.0);
+    let dense = Dense { fresh: true, h };
+    let pairs = none.pairs;
     Model {
         limited: false,
         memory: 0,
-        dense: Dense { fresh: true, h },
+        dense,
         pairs,
     }
 }
 
 // -H g
 pub fn direction(m: Model, g: [f64; 16], n: usize) -> [f64; 16]
-    requires { ⌜ InRange m ⌝ }
+    requires { ⌜ FewPairs m ⌝ }
     requires { ⌜ n ≤ 16 ⌝ }
     ensures { λ r. ⌜ r ≡ directionOf m g n ⌝ }
 {

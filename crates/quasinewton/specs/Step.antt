@@ -24,7 +24,7 @@ use Rattle.hessian.specs.Algorithm.{one}
 use Rattle.hessian.specs.Step.{directionOf, updateOf}
 use Rattle.quasinewton.specs.declared.Fixed.{Fixed}
 use Rattle.quasinewton.specs.declared.Descent.{Descent}
-use Rattle.quasinewton.specs.declared.Settled.{Settled}
+use Rattle.quasinewton.specs.declared.Moved.{Moved}
 
 -- ---- what the open question is for, or how the fit ended
 
@@ -162,8 +162,8 @@ headedOf fixed q m fevals =
 
 -- ---- after a search
 
-abbrev pub settled : Descent → Model → Settled
-settled q m = record { descent = q; model = m }
+abbrev pub moved : Descent → Model → Moved
+moved q m = record { descent = q; model = m }
 
 -- "keep any improvement, then stop"
 unfoldable pub lowerOf : Descent → ℕ → Evaluation → Descent
@@ -194,23 +194,23 @@ steppedOf q t =
       diff = q .diff;
     }
 
-unfoldable pub succeededOf : Fixed → Descent → Model → Evaluation → ℕ → Settled
+unfoldable pub succeededOf : Fixed → Descent → Model → Evaluation → ℕ → Moved
 succeededOf fixed q m t fevals =
     let o = fixed .options in
     let p = steppedOf q t in
     let h = storedOf fixed q m t in
-    cond (not (allFiniteOf (t .g) (fixed .n))) (settled (lowerOf q byGradientFailed t) m)
-    (cond (smallDecreaseOf (o .ftol) (q .line .f) (t .trial .value)) (settled (inPhase p byFunction) h)
-    (cond (smallStepOf (o .xtol) (q .line .x) (t .x) (fixed .n)) (settled (inPhase p byStep) h)
-    (settled (headedOf fixed p h fevals) h)))
+    cond (not (allFiniteOf (t .g) (fixed .n))) (moved (lowerOf q byGradientFailed t) m)
+    (cond (smallDecreaseOf (o .ftol) (q .line .f) (t .trial .value)) (moved (inPhase p byFunction) h)
+    (cond (smallStepOf (o .xtol) (q .line .x) (t .x) (fixed .n)) (moved (inPhase p byStep) h)
+    (moved (headedOf fixed p h fevals) h)))
 
 -- from the head of a round, or from a search that has ended, to the next question or the end
-unfoldable pub settledOf : Fixed → Descent → Model → ℕ → Settled
+unfoldable pub settledOf : Fixed → Descent → Model → ℕ → Moved
 settledOf fixed q m fevals =
-    cond (eqb (q .phase) atHead) (settled (headedOf fixed q m fevals) m)
-    (cond (not (eqb (q .phase) searching)) (settled q m)
+    cond (eqb (q .phase) atHead) (moved (headedOf fixed q m fevals) m)
+    (cond (not (eqb (q .phase) searching)) (moved q m)
     (cond (eqb (q .search .phase) linesearch.found) (succeededOf fixed q m (q .search .best) fevals)
-    (cond (eqb (q .search .phase) linesearch.failed) (settled (missedOf q (q .search .best)) m) (settled q m))))
+    (cond (eqb (q .search .phase) linesearch.failed) (moved (missedOf q (q .search .best)) m) (moved q m))))
 
 -- whether the record waits for an answer
 unfoldable pub asksOf : Descent → Bool

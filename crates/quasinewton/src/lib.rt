@@ -1,4 +1,12 @@
-// The gradient fits bfgs and lbfgs of quasinewton.rs, one answer at a time.
+// The gradient fits bfgs and lbfgs of quasinewton.rs, one answer at a time. A move takes what is told for
+// the open question, and gives the record with the next question in it, or at rest: at the head of a
+// round, or with its search ended. From there `settled` goes on, with the model, to the next question or
+// the end.
+mod formulas;
+mod opening;
+mod outcomes;
+mod rounds;
+
 use hessian::Model;
 use linesearch::Evaluation;
 use linesearch::Line;
@@ -7,7 +15,27 @@ use linesearch::Trial;
 use objective::Differences;
 use protocol::GradientOptions;
 ghost use mathlib.Core.Path.{_≡_};
-ghost use Rattle.quasinewton.specs.Step.{idleOf};
+ghost use Prim.Native.Nat.{_≤_};
+ghost use Rattle.hessian.specs.Step.{InRange};
+ghost use Rattle.linesearch.specs.Step.{noTrial};
+ghost use Rattle.quasinewton.specs.Step.{settledOf, asksOf, probeOf, toldOf, toldGradientOf, idleOf, startOf};
+
+// What the open question is for: the first value, the first gradient, its differences, or a search.
+const FIRST_VALUE: u64 = 1;
+
+const FIRST_GRADIENT: u64 = 2;
+
+const FIRST_DIFFERENCES: u64 = 3;
+
+const SEARCHING: u64 = 4;
+// At the head of a round: no record that is handed back stands here.
+const AT_HEAD: u64 = 13;
+// The last phase of a search with an open question, and those of one that has ended.
+const LAST_ASKING: u64 = 3;
+
+const FOUND: u64 = 4;
+
+const FAILED: u64 = 5;
 
 // What the start fixes. The allowances are numbers: an absent max_iter is its default, an absent
 // max_fevals the largest u64, which no count reaches.
@@ -34,52 +62,197 @@ pub struct Descent {
 }
 
 // The record and the model, where both have moved.
-pub struct Settled {
+pub struct Moved {
     pub descent: Descent,
     pub model: Model,
+}
+
+// From the head of a round, or from a search that has ended, to the next question or the end. A record
+// that is at neither stays as it is.
+pub fn settled(fixed: Fixed, q: Descent, m: Model, fevals: u64) -> Moved
+    requires { ⌜ fixed .n ≤ 16 ⌝ }
+    requires { ⌜ InRange m ⌝ }
+    ensures { λ r. ⌜ r ≡ settledOf fixed q m fevals ⌝ }
+{
+    let s = q.search;
+    let t = s.best;
+    if q.phase == AT_HEAD {
+        let descent = rounds::headed(fixed, q, m, fevals);
+        return Moved { descent, model: m };
+    }
+    if q.phase != SEARCHING {
+        return Moved {
+            descent: q,
+            model: m,
+        };
+    }
+    if s.phase == FOUND {
+        return outcomes::succeeded(fixed, q, m, t, fevals);
+    }
+    if s.phase == FAILED {
+        let descent = outcomes::missed(q, t);
+        return Moved { descent, model: m };
+    }
+    Moved {
+        descent: q,
+        model: m,
+    }
+}
+
+// Whether the record waits for an answer.
+pub fn asks(q: Descent) -> bool
+    ensures { λ r. ⌜ r ≡ asksOf q ⌝ }
+{
+    let s = q.search;
+    if q.phase == SEARCHING {
+        return s.phase <= LAST_ASKING;
+    }
+    q.phase <= FIRST_DIFFERENCES
+}
+
+// The point of the open question.
+pub fn probe(fixed: Fixed, q: Descent) -> [f64; 16]
+    requires { ⌜ fixed .n ≤ 16 ⌝ }
+    ensures { λ r. ⌜ r ≡ probeOf fixed q ⌝ }
+{
+    let l = q.line;
+    let s = q.search;
+    let e = q.diff;
+    let x = l.x;
+    let y = e.x;
+    if q.phase == SEARCHING {
+        return linesearch::probe(rounds::search_fixed(fixed), l, s);
+    }
+    if q.phase != FIRST_DIFFERENCES {
+        return x;
+    }
+    if e.at < fixed.n {
+        return objective::probe(e);
+    }
+    y
+}
+
+// A value as it is read. A record that asks for none stays as it is.
+pub fn told(fixed: Fixed, q: Descent, v: f64) -> Descent
+    requires { ⌜ fixed .n ≤ 16 ⌝ }
+    ensures { λ r. ⌜ r ≡ toldOf fixed q v ⌝ }
+{
+    let l = q.line;
+    let s = q.search;
+    let e = q.diff;
+    if q.phase == SEARCHING {
+        let next = linesearch::told(rounds::search_fixed(fixed), l, s, v, v);
+        let mut w = q;
+        w.search = next;
+        return w;
+    }
+    if q.phase == FIRST_VALUE {
+        return opening::valued(fixed, q, v);
+    }
+    if q.phase != FIRST_DIFFERENCES {
+        return q;
+    }
+    if e.at < fixed.n {
+        return opening::differing(fixed, q, objective::told(e, v));
+    }
+    q
+}
+
+// A gradient. A record that asks for none stays as it is.
+pub fn told_gradient(fixed: Fixed, q: Descent, g: [f64; 16]) -> Descent
+    requires { ⌜ fixed .n ≤ 16 ⌝ }
+    ensures { λ r. ⌜ r ≡ toldGradientOf fixed q g ⌝ }
+{
+    let l = q.line;
+    let s = q.search;
+    if q.phase == SEARCHING {
+        let next = linesearch::told_gradient(rounds::search_fixed(fixed), l, s, g);
+        let mut w = q;
+        w.search = next;
+        return w;
+    }
+    if q.phase == FIRST_GRADIENT {
+        return opening::graded(fixed, q, g);
+    }
+    q
+}
+
+// A search before its first trial.
+fn no_trial() -> Search
+    ensures { λ r. ⌜ r ≡ noTrial ⌝ }
+{
+    let zero = [0.0; 16];
+    let none = Trial {
+        step: 0.0,
+        value: 0.0,
+        slope: 0.0,
+    };
+    let best = Evaluation {
+        trial: none,
+        x: zero,
+        g: zero,
+    };
+    let diff = objective::begun(zero);
+    Search {
+        phase: 1,
+        zooming: false,
+        trials: 0,
+        previous: false,
+        lo: none,
+        hi: none,
+        step: 0.0,
+        value: 0.0,
+        kept: false,
+        best,
+        diff,
+    }
 }
 
 // Before any part is in use.
 pub fn idle() -> Descent
     ensures { λ r. ⌜ r ≡ idleOf ⌝ }
 {
-    let none = [0.0; 16];
-    let diff = objective::begun(none);
-    let trial = Trial {
-        step: 0.0,
-        value: 0.0,
-        slope: 0.0,
-    };
-    let best = Evaluation {
-        trial,
-        x: none,
-        g: none,
-    };
-    let search = Search {
-        phase: 1,
-        zooming: false,
-        trials: 0,
-        previous: false,
-        lo: trial,
-        hi: trial,
-        step: 0.0,
-        value: 0.0,
-        kept: false,
-        best,
-        diff,
-    };
+    let zero = [0.0; 16];
     let line = Line {
-        x: none,
-        g: none,
-        d: none,
+        x: zero,
+        g: zero,
+        d: zero,
         f: 0.0,
         slope: 0.0,
     };
+    let search = no_trial();
+    let diff = objective::begun(zero);
     Descent {
         phase: 0,
         number: 0,
         detail: 0,
         first: false,
+        rounds: 0,
+        line,
+        search,
+        diff,
+    }
+}
+
+// The value at x is asked for.
+pub fn start(x: [f64; 16]) -> Descent
+    ensures { λ r. ⌜ r ≡ startOf x ⌝ }
+{
+    let zero = [0.0; 16];
+    let line = Line {
+        x,
+        g: zero,
+        d: zero,
+        f: 0.0,
+        slope: 0.0,
+    };
+    let search = no_trial();
+    let diff = objective::begun(zero);
+    Descent {
+        phase: FIRST_VALUE,
+        number: 0,
+        detail: 0,
+        first: true,
         rounds: 0,
         line,
         search,

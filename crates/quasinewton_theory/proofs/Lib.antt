@@ -5,3 +5,4 @@ pub mod SearchLong
 pub mod LawsSearch
 pub mod Laws
 pub mod Counts
+pub mod FollowsRound

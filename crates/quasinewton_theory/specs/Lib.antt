@@ -1,3 +1,4 @@
 pub mod Algorithm
 pub mod Laws
 pub mod Counts
+pub mod Follows

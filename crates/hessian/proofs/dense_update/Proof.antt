@@ -14,4 +14,4 @@ dense-update-spec =
     (λ c κs. search needs)
     (λ c κs. search needs)
     (λ c κs. search needs)
-    (λ c. rw (← c .before .before .before .before .before .dot .ensures, ← c .before .before .before .before .prepared .ensures, ← c .before .before .mat-vec .ensures, ← c .before .dot2 .ensures, ← c .rows-updated .ensures)))
+    (λ c. rw (← c .before .before .before .before .before .before .dot .ensures, ← c .before .before .before .before .before .prepared .ensures, ← c .before .before .before .mat-vec .ensures, ← c .before .before .dot2 .ensures, ← c .update-rows .ensures)))

@@ -9,7 +9,7 @@ unfolding directionOf
 direction-spec =
     tie.close
     (tie.spec
-    (λ c κs. search (needs, c .before .before .before .pre .0 .most (c .if1 .taken), c .before .before .before .pre .0 .within (c .if1 .taken)))
+    (λ c κs. search (needs, c .before .before .before .pre .0 .few (c .if1 .taken)))
     (λ c. rw (← c .limited-direction .ensures, c .before .if1 .taken))
     (λ c κs. search needs)
     (λ c. rw (← c .dense-direction .ensures, c .before .if1 .left)))

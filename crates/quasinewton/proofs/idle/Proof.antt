@@ -11,4 +11,5 @@ idle-spec =
     tie.close
     (tie.spec
     (λ c κs. search needs)
-    (λ c. rw (← c .begun .ensures)))
+    (λ c κs. search needs)
+    (λ c. rw (← c .before .no-trial .ensures, ← c .begun .ensures)))
