@@ -1,26 +1,29 @@
 -- What a valid record's numbers keep to, and that each reply can stand. Assumes nothing.
-use Prim.Native.Nat.{ℕ, _+_, _*_, _^_, _≤_, _<_, zero-le}
-use native.Mathlib.Nat.{le-trans, lt-of-le-of-lt, mul-le-mul-left, mul-le-mul-right}
-use mathlib.Core.Path.{_≡_, refl, sym, subst}
-use mathlib.Core.Bool.{Bool, true, false, not, cond}
+use Prim.Native.Nat.{ℕ, _≤_, _<_, zero-le}
+use mathlib.Core.Path.{_≡_, refl, sym, _∙_, ap, subst}
+use mathlib.Core.Bool.{Bool, true, false, not, cond, true≢false}
 use mathlib.Core.List.{List}
 use native.Mathlib.Omega.{arith}
 use lib.Dec.{T, eqb, ltb, leb}
 use lib.ListN.{length}
 use lib.Ieee.{Float}
-use borrow.Author.Tests.{ltb-false, leb-true, eqb-true, eqb-false, ne-eqb}
+use borrow.Author.Tests.{not-false, ltb-false, leb-true, eqb-true, eqb-false, ne-eqb}
 use Rattle.protocol.specs.declared.SimplexOptions.{SimplexOptions}
 use Rattle.protocol.specs.declared.WolfeOptions.{WolfeOptions}
-use Rattle.protocol.specs.Protocol.{refusal, noRefusal}
+use Rattle.protocol.specs.declared.GradientOptions.{GradientOptions}
 use Rattle.protocol.specs.declared.Allowances.{Allowances}
 use Rattle.objective.specs.Step.{begunOf}
 use Rattle.objective.proofs.Follows.{told-within}
 use Rattle.linesearch.specs.declared.Line.{Line}
-use Rattle.linesearch.specs.Start.{optionsRefusalOf, countsRefusalOf}
-use Rattle.optim.specs.declared.Record.{Record}
-use Rattle.optim.specs.Record.{simplexMark, searchMark, differencesMark, most, validSimplexOf, validSearchOf, validOf, Other, Ranges, Open, Stands}
-use Rattle.optim.specs.Answer.{overOf, gradientDueOf, steppedOf, gradedOf, suitsOf}
-use Rattle.optim.specs.Start.{begunRecordOf, excessOf, pastLimitsOf, startRefusalOf, simplexRecordOf, searchPastLimitsOf, searchRefusalOf, searchRecordOf}
+use Rattle.hessian.specs.declared.Model.{Model}
+use Rattle.hessian.specs.Step.{InRange}
+use Rattle.quasinewton.specs.Step as quasinewton
+use Rattle.quasinewton.specs.Step.{byRefusal}
+use Rattle.records.specs.declared.Record.{Record}
+use Rattle.records.specs.Record.{simplexMark, searchMark, differencesMark, most, gradientJobOf, validSimplexOf, validSearchOf, validEndingOf, validOptionsOf, validModelOf, validDescentOf, validOf, Other, Ranges, Open, Stands}
+use Rattle.optim.specs.Answer.{steppedOf, gradedOf, suitsOf}
+use Rattle.stands.specs.Standing.{overOf, gradientDueOf}
+use Rattle.starts.specs.Starts.{begunRecordOf, simplexRecordOf, searchRecordOf, gradientMarkOf, gradientRecordOf}
 
 -- a chain of tests that is true has passed each
 passed : (b x : Bool) → cond b false x ≡ true → (b ≡ false) × (x ≡ true)
@@ -38,12 +41,45 @@ simplex-ranges r e =
     above : (n : ℕ) → (n ≡ 0 → ⊥) → 0 < n
     above n d = omega arith
 
+-- a model in range
+model-ranges : (m : Model) → validModelOf m ≡ true → InRange m
+unfolding validModelOf
+model-ranges m e =
+    let a = passed (ltb 16 (m .memory)) _ e in
+    record { most = λ l. ltb-false _ _ (a .0); within = λ l. leb-true _ _ (a .1) }
+
+-- what a gradient fit's record in range keeps to
+descent-ranges : (r : Record) → validDescentOf r ≡ true → InRange (r .model)
+unfolding validDescentOf
+descent-ranges r e =
+    let a = passed (eqb (r .n) 0) _ e in
+    let b = passed (eqb (r .descent .phase) 0) _ (a .1) in
+    let c = passed (ltb byRefusal (r .descent .phase)) _ (b .1) in
+    let d = passed (not (validEndingOf (r .descent))) _ (c .1) in
+    let f = passed (ltb most (r .descent .rounds)) _ (d .1) in
+    let g = passed (ltb (r .n) (r .descent .diff .at)) _ (f .1) in
+    let h = passed (not (validOptionsOf r)) _ (g .1) in
+    let k = passed (not (validModelOf (r .model))) _ (h .1) in
+    model-ranges (r .model) (not-false _ (k .0))
+
 -- by the job: its part is in range
-parts : (r : Record) (b : Bool) → eqb (r .job) simplexMark ≡ b
-    → cond b (validSimplexOf r) (cond (eqb (r .job) searchMark) (validSearchOf r) (cond (eqb (r .job) differencesMark) (leb (r .diff .at) (r .n)) false)) ≡ true
-    → (r .job ≡ simplexMark → (0 < r .n) × (r .simplex .at ≤ r .n)) × (Other r → r .diff .at ≤ r .n)
-parts r true e v = (λ j. simplex-ranges r v, λ d. absurd (d .0 (eqb-true _ _ e)))
-parts r false e v = (λ j. absurd (eqb-false _ _ e j), λ d. within (eqb (r .job) differencesMark) (rw (ne-eqb _ _ (d .1)) at v))
+abbrev InParts : Record → Type 0
+InParts r =
+    (r .job ≡ simplexMark → (0 < r .n) × (r .simplex .at ≤ r .n))
+    × (gradientJobOf (r .job) ≡ true → InRange (r .model))
+    × (Other r → r .diff .at ≤ r .n)
+
+-- no gradient job has another's mark
+not-gradient : (job mark : ℕ) → gradientJobOf mark ≡ false → gradientJobOf job ≡ true → job ≡ mark → ⊥
+not-gradient job mark m g e = true≢false (sym g ∙ ap gradientJobOf e ∙ m)
+
+parts : (r : Record) (b c d : Bool) → eqb (r .job) simplexMark ≡ b → eqb (r .job) searchMark ≡ c → gradientJobOf (r .job) ≡ d
+    → cond b (validSimplexOf r) (cond c (validSearchOf r) (cond d (validDescentOf r) (cond (eqb (r .job) differencesMark) (leb (r .diff .at) (r .n)) false))) ≡ true → InParts r
+unfolding gradientJobOf
+parts r true c d e f g v = (λ j. simplex-ranges r v, λ j. absurd (not-gradient (r .job) simplexMark refl j (eqb-true _ _ e)), λ o. absurd (o .simplex (eqb-true _ _ e)))
+parts r false true d e f g v = (λ j. absurd (eqb-false _ _ e j), λ j. absurd (not-gradient (r .job) searchMark refl j (eqb-true _ _ f)), λ o. absurd (o .search (eqb-true _ _ f)))
+parts r false false true e f g v = (λ j. absurd (eqb-false _ _ e j), λ j. descent-ranges r v, λ o. absurd (true≢false (sym g ∙ o .gradient)))
+parts r false false false e f g v = (λ j. absurd (eqb-false _ _ e j), λ j. absurd (true≢false (sym j ∙ g)), λ o. within (eqb (r .job) differencesMark) v)
   where
     within : (c : Bool) → cond c (leb (r .diff .at) (r .n)) false ≡ true → r .diff .at ≤ r .n
     within true h = leb-true _ _ h
@@ -56,7 +92,7 @@ ranges r e =
     let b = passed (ltb most (r .accepted)) _ (a .1) in
     let c = passed (ltb most (r .counts .fevals)) _ (b .1) in
     let d = passed (ltb most (r .counts .gevals)) _ (c .1) in
-    let p = parts r (eqb (r .job) simplexMark) refl (d .1) in
+    let p = parts r (eqb (r .job) simplexMark) (eqb (r .job) searchMark) (gradientJobOf (r .job)) refl refl refl (d .1) in
     record {
       few = ltb-false _ _ (a .0);
       numbers = ltb-false _ _ (b .0);
@@ -64,13 +100,14 @@ ranges r e =
       gradients = ltb-false _ _ (d .0);
       some = λ j. p .0 j .0;
       vertex = λ j. p .0 j .1;
-      coordinate = p .1;
+      model = p .1;
+      coordinate = p .2;
     }
 
 -- the record of a job that has not ended has a coordinate to come
 pub open-of : (r : Record) → Ranges r → overOf r ≡ false → Open r
 unfolding overOf
-open-of r h e = record { next = λ d. less (r .diff .at) (r .n) (h .coordinate d) (eqb-false _ _ (rw (ne-eqb _ _ (d .0), ne-eqb _ _ (d .1)) at e)) }
+open-of r h e = record { next = λ d. less (r .diff .at) (r .n) (h .coordinate d) (eqb-false _ _ (rw (ne-eqb _ _ (d .simplex), ne-eqb _ _ (d .search), d .gradient) at e)) }
   where
     less : (a n : ℕ) → a ≤ n → (a ≡ n → ⊥) → a < n
     less a n l d = omega arith
@@ -78,118 +115,56 @@ open-of r h e = record { next = λ d. less (r .diff .at) (r .n) (h .coordinate d
 pub stands : (r : Record) → Ranges r → Stands r
 stands r h = record { few = h .few; numbers = omega (arith, h .numbers); coordinate = h .coordinate }
 
+-- where a record has another's job and n, it is of differences where the other is
+other : (r q : Record) → q .job ≡ r .job → Other q → Other r
+other r q e o = record { simplex = λ j. o .simplex (e ∙ j); search = λ j. o .search (e ∙ j); gradient = sym (ap gradientJobOf e) ∙ o .gradient }
+
 pub stepped-stands : (r : Record) (v : Float) → Ranges r → Open r → Stands (steppedOf r v)
 unfolding steppedOf
-stepped-stands r v h l = at (eqb (r .job) simplexMark) refl
+stepped-stands r v h l = at (eqb (r .job) simplexMark) (eqb (r .job) searchMark) (gradientJobOf (r .job)) refl refl refl
   where
-    beside : (b : Bool) → eqb (r .job) simplexMark ≡ false → eqb (r .job) searchMark ≡ b → Stands (steppedOf r v)
-    beside true e f = rw (e, f) (record { few = h .few; numbers = omega (arith, h .numbers); coordinate = λ d. h .coordinate d })
-    beside false e f = rw (e, f) (record { few = h .few; numbers = omega (arith, h .numbers); coordinate = λ d. told-within (r .n) (r .diff) v (l .next d) })
-
-    at : (b : Bool) → eqb (r .job) simplexMark ≡ b → Stands (steppedOf r v)
-    at true e = rw e (record { few = h .few; numbers = omega (arith, h .numbers); coordinate = λ d. h .coordinate d })
-    at false e = beside (eqb (r .job) searchMark) e refl
+    at : (b c d : Bool) → eqb (r .job) simplexMark ≡ b → eqb (r .job) searchMark ≡ c → gradientJobOf (r .job) ≡ d → Stands (steppedOf r v)
+    at true c d e f g = rw e (record { few = h .few; numbers = omega (arith, h .numbers); coordinate = λ o. h .coordinate (other r _ refl o) })
+    at false true d e f g = rw (e, f) (record { few = h .few; numbers = omega (arith, h .numbers); coordinate = λ o. h .coordinate (other r _ refl o) })
+    at false false true e f g = rw (e, f, g) (record { few = h .few; numbers = omega (arith, h .numbers); coordinate = λ o. h .coordinate (other r _ refl o) })
+    at false false false e f g = rw (e, f, g) (record { few = h .few; numbers = omega (arith, h .numbers); coordinate = λ o. told-within (r .n) (r .diff) v (l .next (other r _ refl o)) })
 
 pub graded-stands : (r : Record) (g : List Float) → Ranges r → Stands (gradedOf r g)
 unfolding gradedOf
-graded-stands r g h = record { few = h .few; numbers = omega (arith, h .numbers); coordinate = λ d. h .coordinate d }
+graded-stands r g h = at (eqb (r .job) searchMark) refl
+  where
+    at : (b : Bool) → eqb (r .job) searchMark ≡ b → Stands (gradedOf r g)
+    at true e = rw e (record { few = h .few; numbers = omega (arith, h .numbers); coordinate = λ o. h .coordinate (other r _ refl o) })
+    at false e = rw e (record { few = h .few; numbers = omega (arith, h .numbers); coordinate = λ o. h .coordinate (other r _ refl o) })
+
+-- a gradient is asked for by a search or by a gradient fit, whose model is in range
+pub due-model : (r : Record) → Ranges r → gradientDueOf r ≡ true → (r .job ≡ searchMark → ⊥) → InRange (r .model)
+unfolding gradientDueOf
+due-model r h e s = h .model (job (gradientJobOf (r .job)) (rw (ne-eqb _ _ s) at e))
+  where
+    job : (b : Bool) → cond b (quasinewton.gradientDueOf (r .descent)) false ≡ true → b ≡ true
+    job true z = refl
+    job false z = absurd (subst T (sym z) tt)
 
 pub begun-stands : (x : List Float) → length x ≤ 16 → Stands (begunRecordOf x)
 unfolding begunRecordOf begunOf
-begun-stands x h = record { few = h; numbers = zero-le; coordinate = λ d. zero-le }
+begun-stands x h = record { few = h; numbers = zero-le; coordinate = λ o. zero-le }
 
 pub simplex-stands : (point : List Float) (n : ℕ) (o : SimplexOptions) (a : Allowances) → n ≤ 16 → Stands (simplexRecordOf point n o a)
 unfolding simplexRecordOf
-simplex-stands point n o a h = record { few = h; numbers = zero-le; coordinate = λ d. absurd (d .0 refl) }
+simplex-stands point n o a h = record { few = h; numbers = zero-le; coordinate = λ o. absurd (o .simplex refl) }
 
 pub search-stands : (l : Line) (n : ℕ) (step : Float) (o : WolfeOptions) (gradients : Bool) → n ≤ 16 → Stands (searchRecordOf l n step o gradients)
 unfolding searchRecordOf
-search-stands l n step o gradients h = record { few = h; numbers = zero-le; coordinate = λ d. absurd (d .1 refl) }
+search-stands l n step o gradients h = record { few = h; numbers = zero-le; coordinate = λ o. absurd (o .search refl) }
 
--- a chain of tests that is false has met none
-missed : (b x : Bool) → cond b true x ≡ false → (b ≡ false) × (x ≡ false)
-missed true x e = absurd (subst T e tt)
-missed false x e = (refl, e)
-
-within-limits : (count : ℕ) (o : SimplexOptions) (a : Allowances) → pastLimitsOf count o a ≡ false → (count ≤ 16) × (o .restarts ≤ 100)
-unfolding pastLimitsOf
-within-limits count o a e =
-    let f = missed (ltb 16 count) _ e in
-    let g = missed (excessOf (a .iter)) _ (f .1) in
-    let h = missed (excessOf (a .fevals)) _ (g .1) in
-    (ltb-false _ _ (f .0), ltb-false _ _ (h .1))
-
--- a start that meets no refusal keeps to 2's limits
-pub start-limits : (count : ℕ) (o : SimplexOptions) (a : Allowances) → startRefusalOf count o a .number ≡ 0 → (count ≤ 16) × (o .restarts ≤ 100)
-unfolding startRefusalOf
-start-limits count o a e = at (pastLimitsOf count o a) refl e
+pub gradient-stands : (point : List Float) (n : ℕ) (o : GradientOptions) (a : Allowances) (limited : Bool) → n ≤ 16 → Stands (gradientRecordOf point n o a limited)
+unfolding gradientRecordOf gradientMarkOf gradientJobOf
+gradient-stands point n o a limited h = record { few = h; numbers = zero-le; coordinate = λ p. absurd (marked limited (p .gradient)) }
   where
-    two : _≡_ {A = ℕ} 2 0 → ⊥
-    two q = omega arith
-
-    at : (b : Bool) → pastLimitsOf count o a ≡ b → startRefusalOf count o a .number ≡ 0 → (count ≤ 16) × (o .restarts ≤ 100)
-    at true h z = absurd (two (rw h at z))
-    at false h z = within-limits count o a h
-
--- an allowance's default is a u64
-pub default-fits : (n k : ℕ) → n ≤ 16 → k ≤ 100 → 200 * n * (1 + k) < 2 ^ 64
-default-fits n k h j = lt-of-le-of-lt (le-trans (mul-le-mul-right (1 + k) (small n h)) (mul-le-mul-left 3200 (more k j))) below
-  where
-    small : (n : ℕ) → n ≤ 16 → 200 * n ≤ 3200
-    small n h = omega arith
-
-    more : (k : ℕ) → k ≤ 100 → 1 + k ≤ 101
-    more k j = omega arith
-
-    below : 3200 * 101 < 2 ^ 64
-    below = omega arith
-
--- lists of one length
-same-counts : (n dcount gcount : ℕ) → countsRefusalOf n dcount gcount .number ≡ 0 → (dcount ≡ n) × (gcount ≡ n)
-unfolding countsRefusalOf
-same-counts n dcount gcount e = none (eqb n 0) e
-  where
-    nine : _≡_ {A = ℕ} 9 0 → ⊥
-    nine q = omega arith
-
-    ten : _≡_ {A = ℕ} 10 0 → ⊥
-    ten q = omega arith
-
-    eleven : _≡_ {A = ℕ} 11 0 → ⊥
-    eleven q = omega arith
-
-    slopes : (b : Bool) → eqb gcount n ≡ b → (cond (not b) (refusal 11 0) noRefusal) .number ≡ 0 → gcount ≡ n
-    slopes true h z = eqb-true _ _ h
-    slopes false h z = absurd (eleven z)
-
-    along : (b : Bool) → eqb dcount n ≡ b → (cond (not b) (refusal 10 0) (cond (not (eqb gcount n)) (refusal 11 0) noRefusal)) .number ≡ 0 → (dcount ≡ n) × (gcount ≡ n)
-    along true h z = (eqb-true _ _ h, slopes (eqb gcount n) refl z)
-    along false h z = absurd (ten z)
-
-    none : (b : Bool) → (cond b (refusal 9 0) (cond (not (eqb dcount n)) (refusal 10 0) (cond (not (eqb gcount n)) (refusal 11 0) noRefusal))) .number ≡ 0
-        → (dcount ≡ n) × (gcount ≡ n)
-    none true z = absurd (nine z)
-    none false z = along (eqb dcount n) refl z
-
--- a search that meets no refusal keeps to 2's limits, and its lists are of one length
-pub search-limits : (n dcount gcount : ℕ) (o : WolfeOptions) → searchRefusalOf n dcount gcount o .number ≡ 0 → (n ≤ 16) × (dcount ≡ n) × (gcount ≡ n)
-unfolding searchRefusalOf searchPastLimitsOf
-search-limits n dcount gcount o e = at (searchPastLimitsOf n dcount gcount o) refl e
-  where
-    two : _≡_ {A = ℕ} 2 0 → ⊥
-    two q = omega arith
-
-    few : searchPastLimitsOf n dcount gcount o ≡ false → n ≤ 16
-    few h = ltb-false _ _ (missed (ltb 16 n) _ h .0)
-
-    counted : (b : Bool) → eqb (optionsRefusalOf o .number) 0 ≡ b
-        → (cond (not b) (optionsRefusalOf o) (countsRefusalOf n dcount gcount)) .number ≡ 0 → countsRefusalOf n dcount gcount .number ≡ 0
-    counted true h z = z
-    counted false h z = absurd (eqb-false _ _ h z)
-
-    at : (b : Bool) → searchPastLimitsOf n dcount gcount o ≡ b → searchRefusalOf n dcount gcount o .number ≡ 0 → (n ≤ 16) × (dcount ≡ n) × (gcount ≡ n)
-    at true h z = absurd (two (rw h at z))
-    at false h z = let c = same-counts n dcount gcount (counted (eqb (optionsRefusalOf o .number) 0) refl (rw h at z)) in (few h, c .0, c .1)
+    marked : (b : Bool) → gradientJobOf (gradientMarkOf b) ≡ false → ⊥
+    marked true e = true≢false e
+    marked false e = true≢false e
 
 -- an answer that suits has as many words as were asked for
 pub one-word : (r : Record) (kind : ℕ) (words : List Float) → gradientDueOf r ≡ false → suitsOf r kind (length words) ≡ true → length words ≡ 1

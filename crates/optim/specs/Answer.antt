@@ -5,110 +5,28 @@ use mathlib.Core.List.{List}
 use lib.Dec.{eqb, ltb, leb}
 use lib.ListN.{length, getD}
 use lib.Ieee.{Float, nan}
-use Rattle.vector.specs.Lists.{first}
 use Rattle.vector.specs.Points.{fromSliceOf}
-use Rattle.protocol.specs.declared.Kind.{Kind}
 use Rattle.protocol.specs.declared.Kind.the-variants.{Value, Gradient}
-use Rattle.protocol.specs.declared.Termination.{Termination}
-use Rattle.protocol.specs.declared.Termination.the-variants.{SimplexTolerance, ObjectiveResolution, MaxIterations, MaxFevals}
-use Rattle.protocol.specs.Protocol.{letter, Result, SearchResult, fitted, searched, differenced, Reply, ask, ended, refused, readOf}
+use Rattle.protocol.specs.Protocol.{letter, Reply, readOf}
 use Rattle.objective.specs.declared.Differences.{Differences}
-use Rattle.objective.specs.Step.{probeOf, toldOf}
-use Rattle.linesearch.specs.declared.Search.{Search}
+use Rattle.objective.specs.Step.{toldOf}
 use Rattle.linesearch.specs.Step as linesearch
-use Rattle.quasinewton.specs.Step.{withSearch}
+use Rattle.hessian.specs.declared.Model.{Model}
+use Rattle.quasinewton.specs.declared.Descent.{Descent}
+use Rattle.quasinewton.specs.Step as quasinewton
 use Rattle.neldermead.specs.declared.Simplex.{Simplex}
-use Rattle.neldermead.specs.Step.{byTolerance, byResolution, byIterations, notFinite, toldOf as simplexTold}
-use Rattle.optim.specs.declared.Record.{Record}
-use Rattle.optim.specs.Record.{simplexMark, searchMark, lastAsking, fixedOf, searchFixedOf, validOf}
-
--- "a refused answer leaves the record bit for bit unchanged"
-abbrev pub refusedOf : Record → ℕ → ℕ → Reply × Record
-refusedOf r number detail = (refused number detail, r)
-
--- the job has ended
-unfoldable pub overOf : Record → Bool
-overOf r =
-    cond (eqb (r .job) simplexMark) (ltb lastAsking (r .simplex .phase))
-    (cond (eqb (r .job) searchMark) (ltb linesearch.asksDifference (r .descent .search .phase))
-    (eqb (r .diff .at) (r .n)))
-
--- whether the open question is for a gradient
-unfoldable pub gradientDueOf : Record → Bool
-gradientDueOf r = cond (eqb (r .job) searchMark) (eqb (r .descent .search .phase) linesearch.asksGradient) false
-
--- the question of a kind at a point of sixteen coordinates
-abbrev pub asksOf : Record → Kind → List Float → Reply × Record
-asksOf r k x = (ask (record { number = r .accepted + 1; kind = k; point = first (r .n) x }), r)
-
--- the reason that a phase stands for
-unfoldable pub terminationOf : ℕ → Termination
-terminationOf phase =
-    cond (eqb phase byTolerance) SimplexTolerance
-    (cond (eqb phase byResolution) ObjectiveResolution
-    (cond (eqb phase byIterations) MaxIterations MaxFevals))
-
--- the result of a simplex fit that has ended
-unfoldable pub resultOf : Record → Result
-unfolding terminationOf
-resultOf r =
-    record {
-      reason = terminationOf (r .simplex .phase);
-      converged = eqb (r .simplex .phase) byTolerance;
-      iterations = r .simplex .rounds;
-      fevals = r .counts .fevals;
-      gevals = r .counts .gevals;
-      f = r .simplex .best .f;
-      x = first (r .n) (r .simplex .best .x);
-    }
-
-abbrev pub endsOf : Record → Reply × Record
-endsOf r = (ended (fitted (resultOf r)), r)
-
--- what stands in a simplex fit: its question, refusal 20, or its result
-unfoldable pub standingSimplexOf : Record → Reply × Record
-unfolding resultOf
-standingSimplexOf r =
-    cond (leb (r .simplex .phase) lastAsking) (asksOf r Value (r .simplex .x))
-    (cond (eqb (r .simplex .phase) notFinite) (refusedOf r 20 0) (endsOf r))
-
--- "its outcome with success, step, f, x, gradient and trials"
-unfoldable pub searchResultOf : Record → SearchResult
-searchResultOf r =
-    let s = r .descent .search in
-    record {
-      success = eqb (s .phase) linesearch.found;
-      step = s .best .trial .step;
-      f = s .best .trial .value;
-      x = first (r .n) (s .best .x);
-      gradient = first (r .n) (s .best .g);
-      trials = s .trials;
-    }
-
--- what stands in a search: its question, or its outcome
-unfoldable pub standingSearchOf : Record → Reply × Record
-unfolding searchResultOf
-standingSearchOf r =
-    let p = linesearch.probeOf (searchFixedOf r) (r .descent .line) (r .descent .search) in
-    cond (ltb linesearch.asksDifference (r .descent .search .phase)) (ended (searched (searchResultOf r)), r)
-    (cond (eqb (r .descent .search .phase) linesearch.asksGradient) (asksOf r Gradient p) (asksOf r Value p))
-
--- what stands in differences
-unfoldable pub standingDifferencesOf : Record → Reply × Record
-standingDifferencesOf r = cond (eqb (r .diff .at) (r .n)) (ended (differenced (first (r .n) (r .diff .g))), r) (asksOf r Value (probeOf (r .diff)))
-
--- the question or the outcome that stands: a function of the record
-unfoldable pub standingOf : Record → Reply × Record
-unfolding standingSimplexOf standingSearchOf standingDifferencesOf
-standingOf r = cond (eqb (r .job) simplexMark) (standingSimplexOf r) (cond (eqb (r .job) searchMark) (standingSearchOf r) (standingDifferencesOf r))
+use Rattle.neldermead.specs.Step.{toldOf as simplexTold}
+use Rattle.records.specs.declared.Record.{Record}
+use Rattle.records.specs.Record.{simplexMark, searchMark, fixedOf, searchFixedOf, gradientFixedOf, gradientJobOf, validOf}
+use Rattle.stands.specs.Standing.{refusedOf, overOf, gradientDueOf, standingOf}
 
 -- "An answer carrying the number last accepted is a repeat. .. Before the first acceptance no number is a repeat."
 unfoldable pub repeatsOf : ℕ → ℕ → Bool
 repeatsOf accepted number = cond (eqb accepted 0) false (eqb number accepted)
 
 -- one V answer accepted more, and the parts that it moves
-abbrev pub valuedOf : Record → Differences → Simplex → Search → Record
-valuedOf r d q s =
+abbrev pub valuedOf : Record → Differences → Simplex → Descent → Model → Record
+valuedOf r d q s m =
     record {
       accepted = r .accepted + 1;
       job = r .job;
@@ -119,21 +37,24 @@ valuedOf r d q s =
       gradient = r .gradient;
       diff = d;
       simplex = q;
-      descent = withSearch (r .descent) s;
+      descent = s;
+      model = m;
     }
 
 -- the record after the value v that was asked for: "In fits `Counted` reads any non-finite value as +infinity. Bare `strong_wolfe` does so for trials only, not for its difference
 -- values. Bare differences never do."
 unfoldable pub steppedOf : Record → Float → Record
 steppedOf r v =
-    let s = r .descent .search in
-    cond (eqb (r .job) simplexMark) (valuedOf r (r .diff) (simplexTold (fixedOf r) (r .simplex) (readOf v) (r .counts .fevals + 1)) s)
-    (cond (eqb (r .job) searchMark) (valuedOf r (r .diff) (r .simplex) (linesearch.toldOf (searchFixedOf r) (r .descent .line) s (readOf v) v))
-    (valuedOf r (toldOf (r .diff) v) (r .simplex) s))
+    let d = r .descent in
+    let q = quasinewton.settledOf (gradientFixedOf r) (quasinewton.toldOf (gradientFixedOf r) d (readOf v)) (r .model) (r .counts .fevals + 1) in
+    cond (eqb (r .job) simplexMark) (valuedOf r (r .diff) (simplexTold (fixedOf r) (r .simplex) (readOf v) (r .counts .fevals + 1)) d (r .model))
+    (cond (eqb (r .job) searchMark) (valuedOf r (r .diff) (r .simplex) (quasinewton.withSearch d (linesearch.toldOf (searchFixedOf r) (d .line) (d .search) (readOf v) v)) (r .model))
+    (cond (gradientJobOf (r .job)) (valuedOf r (r .diff) (r .simplex) (q .descent) (q .model))
+    (valuedOf r (toldOf (r .diff) v) (r .simplex) d (r .model))))
 
--- the record after the gradient g that was asked for, which a search alone does
-unfoldable pub gradedOf : Record → List Float → Record
-gradedOf r g =
+-- one G answer accepted more, and the parts that it moves
+abbrev pub slopedOf : Record → Descent → Model → Record
+slopedOf r d m =
     record {
       accepted = r .accepted + 1;
       job = r .job;
@@ -144,8 +65,17 @@ gradedOf r g =
       gradient = r .gradient;
       diff = r .diff;
       simplex = r .simplex;
-      descent = withSearch (r .descent) (linesearch.toldGradientOf (searchFixedOf r) (r .descent .line) (r .descent .search) g);
+      descent = d;
+      model = m;
     }
+
+-- the record after the gradient g that was asked for, by a search or by a gradient fit
+unfoldable pub gradedOf : Record → List Float → Record
+gradedOf r g =
+    let d = r .descent in
+    let q = quasinewton.settledOf (gradientFixedOf r) (quasinewton.toldGradientOf (gradientFixedOf r) d g) (r .model) (r .counts .fevals) in
+    cond (eqb (r .job) searchMark) (slopedOf r (quasinewton.withSearch d (linesearch.toldGradientOf (searchFixedOf r) (d .line) (d .search) g)) (r .model))
+    (slopedOf r (q .descent) (q .model))
 
 -- the reply to that value, and to that gradient
 unfoldable pub takenOf : Record → Float → Reply × Record

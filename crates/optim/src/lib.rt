@@ -1,186 +1,22 @@
 // The engine: one start for each job, and one call for each answer. The record goes in by value and
 // comes back beside the reply.
-mod stands;
-mod starts;
-
-use neldermead::Simplex;
-use objective::Differences;
 use protocol::Allowances;
 use protocol::GradientOptions;
-use protocol::Said;
 use protocol::SimplexOptions;
 use protocol::WolfeOptions;
-use quasinewton::Descent;
-pub use starts::blank;
+pub use records::Answered;
+use records::Counts;
+pub use records::Record;
+pub use records::blank;
+pub use records::valid;
 ghost use mathlib.Core.Path.{_≡_};
-ghost use lib.ListN.{length};
-ghost use Rattle.optim.specs.Record.{outcomeOf, validSimplexOf, validSearchOf, validOf, Ranges, Open};
-ghost use Rattle.optim.specs.Answer.{refusedOf, repeatsOf, steppedOf, gradedOf, takenOf, takenGradientOf, suitsOf, heardOf, answerOf};
-ghost use Rattle.optim.specs.Start.{differencesOf, simplexOf, searchOf};
+ghost use Rattle.records.specs.Record.{outcomeOf, Ranges, Open, Modelled};
+ghost use Rattle.optim.specs.Answer.{repeatsOf, steppedOf, gradedOf, takenOf, takenGradientOf, suitsOf, heardOf, answerOf};
+ghost use Rattle.optim.specs.Start.{differencesOf, simplexOf, searchOf, gradientOf, bfgsOf, lbfgsOf};
 
-// The job marks that are known.
 const SIMPLEX: u64 = 1;
 
 const SEARCH: u64 = 4;
-
-const DIFFERENCES: u64 = 5;
-// Any count above this is out of range.
-const MOST: u64 = 40_000_000_000;
-// Allowances, restarts and max_evals above these are past the limits.
-const MOST_ALLOWED: u64 = 1_000_000;
-
-const MOST_RESTARTS: u64 = 100;
-
-const MOST_EVALS: u64 = 1_000;
-// The last mark of a phase, in a simplex fit and in a search; and that of a descent that searches.
-const LAST_PHASE: u64 = 11;
-
-const LAST_SEARCH_PHASE: u64 = 5;
-
-const SEARCHING: u64 = 4;
-
-// Accepted V answers, and accepted G answers.
-pub struct Counts {
-    pub fevals: u64,
-    pub gevals: u64,
-}
-
-// max_iter and max_fevals of a fit, an absent one as its default.
-pub struct Limits {
-    pub iter: u64,
-    pub fevals: u64,
-}
-
-// All that the engine keeps between two calls. `accepted` is the number last accepted, 0 before the
-// first; the open question's is one more. A part that its job does not use is zero.
-pub struct Record {
-    pub accepted: u64,
-    pub job: u64,
-    pub n: usize,
-    pub counts: Counts,
-    pub limits: Limits,
-    pub options: SimplexOptions,
-    pub gradient: GradientOptions,
-    pub diff: Differences,
-    pub simplex: Simplex,
-    pub descent: Descent,
-}
-
-// A reply, with the point and the gradient that it speaks of, and the record for the next call.
-pub struct Answered {
-    pub said: Said,
-    pub x: [f64; 16],
-    pub g: [f64; 16],
-    pub next: Record,
-}
-
-// Whether a record of the job simplex is in range.
-fn valid_simplex(r: Record) -> bool
-    ensures { λ b. ⌜ b ≡ validSimplexOf r ⌝ }
-{
-    let s = r.simplex;
-    let limits = r.limits;
-    let o = r.options;
-    if r.n == 0 {
-        return false;
-    }
-    if r.n < s.at {
-        return false;
-    }
-    if s.phase == 0 {
-        return false;
-    }
-    if LAST_PHASE < s.phase {
-        return false;
-    }
-    if MOST < s.rounds {
-        return false;
-    }
-    if MOST < s.runs {
-        return false;
-    }
-    if MOST_ALLOWED < limits.iter {
-        return false;
-    }
-    if MOST_ALLOWED < limits.fevals {
-        return false;
-    }
-    o.restarts <= MOST_RESTARTS
-}
-
-// Whether a record of the job search is in range.
-fn valid_search(r: Record) -> bool
-    ensures { λ b. ⌜ b ≡ validSearchOf r ⌝ }
-{
-    let d = r.descent;
-    let s = d.search;
-    let o = r.gradient;
-    let w = o.wolfe;
-    if r.n == 0 {
-        return false;
-    }
-    if d.phase != SEARCHING {
-        return false;
-    }
-    if s.phase == 0 {
-        return false;
-    }
-    if LAST_SEARCH_PHASE < s.phase {
-        return false;
-    }
-    if MOST_EVALS < w.evals {
-        return false;
-    }
-    if w.evals < s.trials {
-        return false;
-    }
-    s.diff.at <= r.n
-}
-
-// Refusal 1: whether the record is in range.
-pub fn valid(r: Record) -> bool
-    ensures { λ b. ⌜ b ≡ validOf r ⌝ }
-{
-    let counts = r.counts;
-    let diff = r.diff;
-    if 16 < r.n {
-        return false;
-    }
-    if MOST < r.accepted {
-        return false;
-    }
-    if MOST < counts.fevals {
-        return false;
-    }
-    if MOST < counts.gevals {
-        return false;
-    }
-    if r.job == SIMPLEX {
-        return valid_simplex(r);
-    }
-    if r.job == SEARCH {
-        return valid_search(r);
-    }
-    if r.job == DIFFERENCES {
-        return diff.at <= r.n;
-    }
-    false
-}
-
-// A refusal: the record comes back as it was.
-fn refused(r: Record, number: u64, detail: u64) -> Answered
-    ensures { λ a. ⌜ outcomeOf a ≡ refusedOf r number detail ⌝ }
-{
-    let next = r;
-    let x = [0.0; 16];
-    let g = [0.0; 16];
-    Answered {
-        said: Said::Refused(number, detail),
-        x,
-        g,
-        next,
-    }
-}
 
 // Whether a number is that of the last accepted answer; before the first none is.
 fn repeats(accepted: u64, number: u64) -> bool
@@ -225,29 +61,55 @@ fn stepped(r: Record, v: f64) -> Record
         q.descent = d;
         return q;
     }
+    if records::gradient_job(r.job) {
+        let d = r.descent;
+        let m = r.model;
+        let fixed = stands::gradient_fixed(r);
+        let f = objective::read(v);
+        let told = quasinewton::told(fixed, d, f);
+        let moved = quasinewton::settled(fixed, told, m, fevals);
+        let descent = moved.descent;
+        let model = moved.model;
+        q.descent = descent;
+        q.model = model;
+        return q;
+    }
     let next = objective::told(old, v);
     q.diff = next;
     q
 }
 
-// The record after the gradient g that was asked for: a search alone asks for one.
+// The record after the gradient g that was asked for, by a search or by a gradient fit.
 fn graded(r: Record, g: [f64; 16]) -> Record
     requires { ⌜ Ranges r ⌝ }
+    requires { ⌜ Modelled r ⌝ }
     ensures { λ q. ⌜ q ≡ gradedOf r g ⌝ }
 {
     let counts = r.counts;
     let fevals = counts.fevals;
     let gevals = counts.gevals + 1;
-    let mut d = r.descent;
-    let fixed = stands::search_fixed(r);
-    let line = d.line;
-    let search = d.search;
-    d.search = linesearch::told_gradient(fixed, line, search, g);
     let more = Counts { fevals, gevals };
     let mut q = r;
     q.accepted = r.accepted + 1;
     q.counts = more;
-    q.descent = d;
+    if r.job == SEARCH {
+        let mut d = r.descent;
+        let fixed = stands::search_fixed(r);
+        let line = d.line;
+        let search = d.search;
+        d.search = linesearch::told_gradient(fixed, line, search, g);
+        q.descent = d;
+        return q;
+    }
+    let d = r.descent;
+    let m = r.model;
+    let fixed = stands::gradient_fixed(r);
+    let told = quasinewton::told_gradient(fixed, d, g);
+    let moved = quasinewton::settled(fixed, told, m, fevals);
+    let descent = moved.descent;
+    let model = moved.model;
+    q.descent = descent;
+    q.model = model;
     q
 }
 
@@ -264,6 +126,7 @@ fn taken(r: Record, v: f64) -> Answered
 // The reply to the gradient g that was asked for.
 fn taken_gradient(r: Record, g: [f64; 16]) -> Answered
     requires { ⌜ Ranges r ⌝ }
+    requires { ⌜ Modelled r ⌝ }
     ensures { λ a. ⌜ outcomeOf a ≡ takenGradientOf r g ⌝ }
 {
     let q = graded(r, g);
@@ -300,13 +163,13 @@ fn heard(r: Record, number: u64, kind: u8, words: &[f64]) -> Answered
         return stands::standing(r);
     }
     if ended {
-        return refused(r, 15, 0);
+        return stands::refused(r, 15, 0);
     }
     if number != due {
-        return refused(r, 16, 0);
+        return stands::refused(r, 16, 0);
     }
     if !suited {
-        return refused(r, 17, 0);
+        return stands::refused(r, 17, 0);
     }
     if slopes {
         let g = vector::from_slice(words, r.n);
@@ -322,10 +185,10 @@ fn heard(r: Record, number: u64, kind: u8, words: &[f64]) -> Answered
 pub fn answer(r: Record, number: u64, kind: u8, words: &[f64]) -> Answered
     ensures { λ a. ⌜ outcomeOf a ≡ answerOf r number kind (now (words .entry)) ⌝ }
 {
-    if valid(r) {
+    if records::valid(r) {
         return heard(r, number, kind, words);
     }
-    refused(r, 1, 0)
+    stands::refused(r, 1, 0)
 }
 
 // Starts central differences at x. A list of more than sixteen is refused with 2; of none it ends at
@@ -334,8 +197,8 @@ pub fn differences(x: &[f64]) -> Answered
     ensures { λ a. ⌜ outcomeOf a ≡ differencesOf (now (x .entry)) ⌝ }
 {
     if 16 < x.len() {
-        let none = starts::blank();
-        return refused(none, 2, 0);
+        let none = records::blank();
+        return stands::refused(none, 2, 0);
     }
     let r = starts::begun_record(x);
     stands::standing(r)
@@ -346,15 +209,15 @@ pub fn simplex(x: &[f64], o: SimplexOptions, a: Allowances) -> Answered
     ensures { λ r. ⌜ outcomeOf r ≡ simplexOf (now (x .entry)) o a ⌝ }
 {
     let n = x.len();
-    let why = starts::start_refusal(n, o, a);
+    let why = starts::simplex_refusal(n, o, a);
     if why.number != 0 {
-        let none = starts::blank();
-        return refused(none, why.number, why.detail);
+        let none = records::blank();
+        return stands::refused(none, why.number, why.detail);
     }
     let point = vector::from_slice(x, n);
     if !vector::all_finite(point, n) {
-        let none = starts::blank();
-        return refused(none, 12, 1);
+        let none = records::blank();
+        return stands::refused(none, 12, 1);
     }
     let r = starts::simplex_record(point, n, o, a);
     stands::standing(r)
@@ -376,8 +239,8 @@ pub fn search(
     let n = x.len();
     let why = starts::search_refusal(n, d.len(), g.len(), o);
     if why.number != 0 {
-        let none = starts::blank();
-        return refused(none, why.number, why.detail);
+        let none = records::blank();
+        return stands::refused(none, why.number, why.detail);
     }
     let from = vector::from_slice(x, n);
     let along = vector::from_slice(d, n);
@@ -385,9 +248,43 @@ pub fn search(
     let line = linesearch::line_from(from, along, f0, slopes, n);
     let lent = linesearch::line_refusal(n, line, step);
     if lent.number != 0 {
-        let none = starts::blank();
-        return refused(none, lent.number, lent.detail);
+        let none = records::blank();
+        return stands::refused(none, lent.number, lent.detail);
     }
     let r = starts::search_record(line, n, step, o, gradients);
     stands::standing(r)
+}
+
+// Starts a gradient fit at x, lbfgs where `limited`.
+fn gradient(x: &[f64], o: GradientOptions, a: Allowances, limited: bool) -> Answered
+    ensures { λ r. ⌜ outcomeOf r ≡ gradientOf (now (x .entry)) o a limited ⌝ }
+{
+    let n = x.len();
+    let why = starts::gradient_refusal(n, o, a, limited);
+    if why.number != 0 {
+        let none = records::blank();
+        return stands::refused(none, why.number, why.detail);
+    }
+    let point = vector::from_slice(x, n);
+    if !vector::all_finite(point, n) {
+        let none = records::blank();
+        return stands::refused(none, 12, 1);
+    }
+    let r = starts::gradient_record(point, n, o, a, limited);
+    stands::standing(r)
+}
+
+// Starts a fit by bfgs at x; its memory is passed over. It is refused with 2, 4, 5, 9 or 12, looked for in
+// that order.
+pub fn bfgs(x: &[f64], o: GradientOptions, a: Allowances) -> Answered
+    ensures { λ r. ⌜ outcomeOf r ≡ bfgsOf (now (x .entry)) o a ⌝ }
+{
+    gradient(x, o, a, false)
+}
+
+// Starts a fit by lbfgs at x. It is refused with 2, 3, 4, 5, 9 or 12, looked for in that order.
+pub fn lbfgs(x: &[f64], o: GradientOptions, a: Allowances) -> Answered
+    ensures { λ r. ⌜ outcomeOf r ≡ lbfgsOf (now (x .entry)) o a ⌝ }
+{
+    gradient(x, o, a, true)
 }

@@ -216,6 +216,10 @@ settledOf fixed q m fevals =
 unfoldable pub asksOf : Descent → Bool
 asksOf q = cond (eqb (q .phase) searching) (leb (q .search .phase) linesearch.asksDifference) (leb (q .phase) firstDifferences)
 
+-- whether it is for a gradient
+unfoldable pub gradientDueOf : Descent → Bool
+gradientDueOf q = cond (eqb (q .phase) searching) (eqb (q .search .phase) linesearch.asksGradient) (eqb (q .phase) firstGradient)
+
 -- ---- the opening
 
 unfoldable pub gradedOf : Fixed → Descent → List Float → Descent

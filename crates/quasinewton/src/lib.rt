@@ -18,7 +18,7 @@ ghost use mathlib.Core.Path.{_≡_};
 ghost use Prim.Native.Nat.{_≤_};
 ghost use Rattle.hessian.specs.Step.{InRange};
 ghost use Rattle.linesearch.specs.Step.{noTrial};
-ghost use Rattle.quasinewton.specs.Step.{settledOf, asksOf, probeOf, toldOf, toldGradientOf, idleOf, startOf};
+ghost use Rattle.quasinewton.specs.Step.{settledOf, asksOf, gradientDueOf, probeOf, toldOf, toldGradientOf, idleOf, startOf};
 
 // What the open question is for: the first value, the first gradient, its differences, or a search.
 const FIRST_VALUE: u64 = 1;
@@ -30,7 +30,9 @@ const FIRST_DIFFERENCES: u64 = 3;
 const SEARCHING: u64 = 4;
 // At the head of a round: no record that is handed back stands here.
 const AT_HEAD: u64 = 13;
-// The last phase of a search with an open question, and those of one that has ended.
+// The phase of a search that asks for a gradient, the last with an open question, and those of one that has ended.
+const ASKS_GRADIENT: u64 = 2;
+
 const LAST_ASKING: u64 = 3;
 
 const FOUND: u64 = 4;
@@ -108,6 +110,17 @@ pub fn asks(q: Descent) -> bool
         return s.phase <= LAST_ASKING;
     }
     q.phase <= FIRST_DIFFERENCES
+}
+
+// Whether the open question is for a gradient.
+pub fn gradient_due(q: Descent) -> bool
+    ensures { λ r. ⌜ r ≡ gradientDueOf q ⌝ }
+{
+    let s = q.search;
+    if q.phase == SEARCHING {
+        return s.phase == ASKS_GRADIENT;
+    }
+    q.phase == FIRST_GRADIENT
 }
 
 // The point of the open question.

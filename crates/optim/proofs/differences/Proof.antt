@@ -3,7 +3,7 @@ use borrow.Author.Needs.{needs}
 use borrow.Author.Tests.{le-ltb, lt-ltb}
 use Rattle.optim.specs.Start.{differencesOf}
 use mathlib.Core.Path.{sym, subst}
-use Rattle.optim.specs.Record.{Stands}
+use Rattle.records.specs.Record.{Stands}
 use Rattle.optim.proofs.Ranges.{begun-stands}
 use Rattle.optim.proofs.differences.Statement.{statement}
 use Rattle.optim.proofs.differences.Tie as tie

@@ -1,5 +1,6 @@
 -- `optim::graded` meets its contract: each return follows the calls and tests that led to it. Assumes nothing.
 use borrow.Author.Needs.{needs}
+use borrow.Author.Tests.{eq-eqb, ne-eqb}
 use Rattle.optim.specs.Answer.{gradedOf}
 use Rattle.optim.proofs.graded.Statement.{statement}
 use Rattle.optim.proofs.graded.Tie as tie
@@ -10,7 +11,11 @@ graded-spec =
     tie.close
     (tie.spec
     (λ c. search needs)
-    (λ c κs. search needs)
-    (λ c κs. rw (c .before .before .search-fixed .ensures) (c .before .before .before .before .before .before .pre .few))
     (λ c. search needs)
-    (λ c. rw (← c .before .before .before .before .search-fixed .ensures, ← c .before .told-gradient .ensures)))
+    (λ c κs. search needs)
+    (λ c κs. rw (c .before .before .search-fixed .ensures) (c .before .before .before .before .before .before .before .before .before .pre .0 .few))
+    (λ c. rw (← c .before .before .before .search-fixed .ensures, ← c .told-gradient .ensures, eq-eqb _ _ (c .before .before .before .before .before .if1 .taken)))
+    (λ c κs. search needs)
+    (λ c κs. rw (c .gradient-fixed .ensures) (c .before .before .before .before .before .before .before .before .pre .0 .few))
+    (λ c κs. rw (c .before .gradient-fixed .ensures) (c .before .before .before .before .before .before .before .before .before .pre .0 .few, c .before .before .before .before .before .before .before .before .before .pre .1 (c .before .before .before .before .if1 .left)))
+    (λ c. rw (← c .before .before .before .before .gradient-fixed .ensures, ← c .before .before .before .told-gradient2 .ensures, ← c .before .before .settled .ensures, ne-eqb _ _ (c .before .before .before .before .before .before .before .if1 .left))))

@@ -2,12 +2,13 @@
 use borrow.Author.Needs.{needs}
 use borrow.Author.Tests.{eq-eqb, ne-eqb}
 use Rattle.optim.specs.Start.{searchOf}
-use Rattle.optim.proofs.Ranges.{search-limits, search-stands}
 use mathlib.Core.Path.{sym, ap, subst, _∙_}
 use lib.ListN.{length}
 use Rattle.protocol.specs.declared.Refusal.{Refusal}
-use Rattle.optim.specs.Record.{Stands}
+use Rattle.records.specs.Record.{Stands}
 use native.Mathlib.Nat.{le-of-eq, le-refl}
+use Rattle.starts.proofs.Limits.{search-limits}
+use Rattle.optim.proofs.Ranges.{search-stands}
 use Rattle.optim.proofs.search.Statement.{statement}
 use Rattle.optim.proofs.search.Tie as tie
 

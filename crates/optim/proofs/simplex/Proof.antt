@@ -2,12 +2,13 @@
 use borrow.Author.Needs.{needs}
 use borrow.Author.Tests.{eq-eqb, ne-eqb}
 use Rattle.optim.specs.Start.{simplexOf}
-use mathlib.Core.Path.{sym, ap, _∙_, subst}
-use native.Mathlib.Nat.{le-refl}
+use mathlib.Core.Path.{sym, ap, subst, _∙_}
 use lib.ListN.{length}
 use Rattle.protocol.specs.declared.Refusal.{Refusal}
-use Rattle.optim.specs.Record.{Stands}
-use Rattle.optim.proofs.Ranges.{start-limits, simplex-stands}
+use Rattle.records.specs.Record.{Stands}
+use native.Mathlib.Nat.{le-refl}
+use Rattle.starts.proofs.Limits.{simplex-limits}
+use Rattle.optim.proofs.Ranges.{simplex-stands}
 use Rattle.optim.proofs.simplex.Statement.{statement}
 use Rattle.optim.proofs.simplex.Tie as tie
 
@@ -19,12 +20,12 @@ simplex-spec =
     (λ c κs. search needs)
     (λ c κs. search needs)
     (λ c κs. search needs)
-    (λ c. rw (← c .before .before .before .before .start-refusal .ensures, ← c .before .blank .ensures, ← c .refused .ensures, ne-eqb _ _ (c .before .before .if1 .taken)))
-    (λ c κs. (start-limits (length (c .before .before .before .before .args .x .now)) (c .before .before .before .before .args .o) (c .before .before .before .before .args .a) (sym (ap (λ (w : Refusal). w .number) (c .before .before .start-refusal .ensures)) ∙ c .if1 .left) .0, le-refl _))
-    (λ c κs. start-limits (length (c .before .before .before .before .before .args .x .now)) (c .before .before .before .before .before .args .o) (c .before .before .before .before .before .args .a) (sym (ap (λ (w : Refusal). w .number) (c .before .before .before .start-refusal .ensures)) ∙ c .before .if1 .left) .0)
+    (λ c. rw (← c .before .before .before .before .simplex-refusal .ensures, ← c .before .blank .ensures, ← c .refused .ensures, ne-eqb _ _ (c .before .before .if1 .taken)))
+    (λ c κs. (simplex-limits (length (c .before .before .before .before .args .x .now)) (c .before .before .before .before .args .o) (c .before .before .before .before .args .a) (sym (ap (λ (w : Refusal). w .number) (c .before .before .simplex-refusal .ensures)) ∙ c .if1 .left) .0, le-refl _))
+    (λ c κs. simplex-limits (length (c .before .before .before .before .before .args .x .now)) (c .before .before .before .before .before .args .o) (c .before .before .before .before .before .args .a) (sym (ap (λ (w : Refusal). w .number) (c .before .before .before .simplex-refusal .ensures)) ∙ c .before .if1 .left) .0)
     (λ c κs. search needs)
     (λ c κs. search needs)
-    (λ c. rw (← c .before .before .before .before .before .before .before .start-refusal .ensures, ← c .before .before .before .before .from-slice .ensures, ← c .before .before .before .all-finite .ensures, ← c .before .blank2 .ensures, ← c .refused2 .ensures, eq-eqb _ _ (c .before .before .before .before .before .if1 .left), c .before .before .if2 .taken))
-    (λ c κs. start-limits (length (c .before .before .before .before .before .before .before .args .x .now)) (c .before .before .before .before .before .before .before .args .o) (c .before .before .before .before .before .before .before .args .a) (sym (ap (λ (w : Refusal). w .number) (c .before .before .before .before .before .start-refusal .ensures)) ∙ c .before .before .before .if1 .left))
-    (λ c κs. subst Stands (sym (c .simplex-record .ensures)) (simplex-stands _ (length (c .before .before .before .before .before .before .before .before .args .x .now)) (c .before .before .before .before .before .before .before .before .args .o) (c .before .before .before .before .before .before .before .before .args .a) (start-limits (length (c .before .before .before .before .before .before .before .before .args .x .now)) (c .before .before .before .before .before .before .before .before .args .o) (c .before .before .before .before .before .before .before .before .args .a) (sym (ap (λ (w : Refusal). w .number) (c .before .before .before .before .before .before .start-refusal .ensures)) ∙ c .before .before .before .before .if1 .left) .0)))
-    (λ c. rw (← c .before .before .before .before .before .before .before .start-refusal .ensures, ← c .before .before .before .before .from-slice .ensures, ← c .before .before .before .all-finite .ensures, ← c .before .simplex-record .ensures, ← c .standing .ensures, eq-eqb _ _ (c .before .before .before .before .before .if1 .left), c .before .before .if2 .left)))
+    (λ c. rw (← c .before .before .before .before .before .before .before .simplex-refusal .ensures, ← c .before .before .before .before .from-slice .ensures, ← c .before .before .before .all-finite .ensures, ← c .before .blank2 .ensures, ← c .refused2 .ensures, eq-eqb _ _ (c .before .before .before .before .before .if1 .left), c .before .before .if2 .taken))
+    (λ c κs. simplex-limits (length (c .before .before .before .before .before .before .before .args .x .now)) (c .before .before .before .before .before .before .before .args .o) (c .before .before .before .before .before .before .before .args .a) (sym (ap (λ (w : Refusal). w .number) (c .before .before .before .before .before .simplex-refusal .ensures)) ∙ c .before .before .before .if1 .left))
+    (λ c κs. subst Stands (sym (c .simplex-record .ensures)) (simplex-stands _ _ _ _ (simplex-limits (length (c .before .before .before .before .before .before .before .before .args .x .now)) (c .before .before .before .before .before .before .before .before .args .o) (c .before .before .before .before .before .before .before .before .args .a) (sym (ap (λ (w : Refusal). w .number) (c .before .before .before .before .before .before .simplex-refusal .ensures)) ∙ c .before .before .before .before .if1 .left) .0)))
+    (λ c. rw (← c .before .before .before .before .before .before .before .simplex-refusal .ensures, ← c .before .before .before .before .from-slice .ensures, ← c .before .before .before .all-finite .ensures, ← c .before .simplex-record .ensures, ← c .standing .ensures, eq-eqb _ _ (c .before .before .before .before .before .if1 .left), c .before .before .if2 .left)))

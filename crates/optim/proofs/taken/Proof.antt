@@ -2,7 +2,7 @@
 use borrow.Author.Needs.{needs}
 use Rattle.optim.specs.Answer.{takenOf}
 use mathlib.Core.Path.{sym, subst}
-use Rattle.optim.specs.Record.{Stands}
+use Rattle.records.specs.Record.{Stands}
 use Rattle.optim.proofs.Ranges.{stepped-stands}
 use Rattle.optim.proofs.taken.Statement.{statement}
 use Rattle.optim.proofs.taken.Tie as tie

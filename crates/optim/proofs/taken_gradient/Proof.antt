@@ -2,7 +2,7 @@
 use borrow.Author.Needs.{needs}
 use Rattle.optim.specs.Answer.{takenGradientOf}
 use mathlib.Core.Path.{sym, subst}
-use Rattle.optim.specs.Record.{Stands}
+use Rattle.records.specs.Record.{Stands}
 use Rattle.optim.proofs.Ranges.{graded-stands}
 use Rattle.optim.proofs.taken_gradient.Statement.{statement}
 use Rattle.optim.proofs.taken_gradient.Tie as tie
@@ -13,5 +13,5 @@ taken-gradient-spec =
     tie.close
     (tie.spec
     (λ c κs. search needs)
-    (λ c κs. subst Stands (sym (c .graded .ensures)) (graded-stands (c .before .args .r) (c .before .args .g) (c .before .pre)))
+    (λ c κs. subst Stands (sym (c .graded .ensures)) (graded-stands (c .before .args .r) (c .before .args .g) (c .before .pre .0)))
     (λ c. rw (← c .before .graded .ensures, ← c .standing .ensures)))

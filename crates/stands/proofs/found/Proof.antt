@@ -1,0 +1,14 @@
+-- `stands::found` meets its contract: each return follows the calls and tests that led to it. Assumes nothing.
+use mathlib.Core.Path.{refl}
+use Rattle.stands.specs.Standing.{searchResultOf}
+use Rattle.records.specs.Record.{outcomeOf}
+use Rattle.protocol.specs.Protocol.{replyOf}
+use Rattle.stands.proofs.found.Statement.{statement}
+use Rattle.stands.proofs.found.Tie as tie
+
+pub found-spec : {M : Type 1} → statement M
+unfolding searchResultOf outcomeOf replyOf
+found-spec =
+    tie.close
+    (tie.spec
+    (λ c. refl))
