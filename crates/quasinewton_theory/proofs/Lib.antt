@@ -6,3 +6,5 @@ pub mod LawsSearch
 pub mod Laws
 pub mod Counts
 pub mod FollowsRound
+pub mod FollowsEnds
+pub mod FollowsAnswers
