@@ -8,3 +8,4 @@ pub mod Counts
 pub mod FollowsRound
 pub mod FollowsEnds
 pub mod FollowsAnswers
+pub mod FollowsSettles
