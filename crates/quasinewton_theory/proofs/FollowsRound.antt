@@ -82,7 +82,7 @@ counts-then n rest = rw (eq-eqb n n refl) (go (eqb n 0))
     go false = refl
 
 -- a refusal of the options leaves no search without a trial
-options-allow : (o : WolfeOptions) → eqb (optionsRefusalOf o .number) 0 ≡ true → eqb (o .evals) 0 ≡ false
+pub options-allow : (o : WolfeOptions) → eqb (optionsRefusalOf o .number) 0 ≡ true → eqb (o .evals) 0 ≡ false
 unfolding optionsRefusalOf
 options-allow o = go (lt plusZero (o .c1)) (lt (o .c1) one) (lt (o .c1) (o .c2)) (lt (o .c2) one) (eqb (o .evals) 0) (positiveOf (o .stepmax))
   where

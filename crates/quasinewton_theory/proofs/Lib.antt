@@ -9,3 +9,6 @@ pub mod FollowsRound
 pub mod FollowsEnds
 pub mod FollowsAnswers
 pub mod FollowsSettles
+pub mod FollowsShape
+pub mod FollowsStands
+pub mod Follows

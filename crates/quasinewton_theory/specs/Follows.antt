@@ -182,7 +182,7 @@ module _ (fixed : Fixed) where
     -- every coordinate past n is +0.0
     pub start-zeros : (x : List Float) → search.ZeroFrom (fixed .n) x → ZeroPast (fixed .n) (startOf x)
     pub told-zeros : (q : Descent) (v : Float) → Shaped fixed q → ZeroPast (fixed .n) q → ZeroPast (fixed .n) (toldOf fixed q v)
-    pub told-gradient-zeros : (q : Descent) (g : List Float) → search.ZeroFrom (fixed .n) g → Shaped fixed q → ZeroPast (fixed .n) q → ZeroPast (fixed .n) (toldGradientOf fixed q g)
+    pub told-gradient-zeros : (q : Descent) (g : List Float) → Sixteen g → search.ZeroFrom (fixed .n) g → Shaped fixed q → ZeroPast (fixed .n) q → ZeroPast (fixed .n) (toldGradientOf fixed q g)
     pub settled-zeros : (q : Descent) (m : Model) (v : ℕ) → Shaped fixed q → hessian.Sized m → ZeroPast (fixed .n) q → hessian.ZerosPast (fixed .n) m
         → ZeroPast (fixed .n) (settledOf fixed q m v .descent) × hessian.ZerosPast (fixed .n) (settledOf fixed q m v .model)
     pub probe-zeros : (q : Descent) → Shaped fixed q → ZeroPast (fixed .n) q → search.ZeroFrom (fixed .n) (probeOf fixed q)
