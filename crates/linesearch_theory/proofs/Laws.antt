@@ -3,7 +3,7 @@ use Prim.Native.Nat.{ℕ, zero, suc, _≤_}
 use mathlib.Core.Path.{_≡_, refl, sym, subst}
 use mathlib.Core.Logic.{_⊎_, inl, inr, ⊎-elim}
 use mathlib.Core.Option.{none}
-use mathlib.Core.List.{List}
+use mathlib.Core.List.{List, List·Memᴰ}
 use mathlib.Core.Bool.{Bool, true, false}
 use lib.Dec.{T}
 use lib.Ieee.{Float, nan, inf, fin, lt, le}
@@ -22,11 +22,11 @@ use Rattle.linesearch.specs.declared.Evaluation.{Evaluation}
 use Rattle.linesearch.specs.declared.Line.{Line}
 use Rattle.linesearch.specs.Trials.{two, startOf, armijoOf}
 use Rattle.linesearch_theory.specs.Algorithm.{WolfeResult, start, bracket, search}
-use Rattle.linesearch_theory.specs.Laws.{Heard, EvaluationTold, Descending, ResultLaws, StepLaws, SearchLaws}
+use Rattle.linesearch_theory.specs.Laws.{Heard, EvaluationTold, Descending, Made, ResultLaws, StepLaws, SearchLaws}
 use Rattle.linesearch_theory.proofs.Steps.{Plus, plus-le, positive-plus, min-plus, twice-plus, interpolate-plus}
 use Rattle.linesearch_theory.proofs.LawsTold.{evaluations, heard-finite, Tried}
 use Rattle.linesearch_theory.proofs.LawsResults.{Result, results}
-use Rattle.linesearch_theory.proofs.LawsTrials.{trials-made}
+use Rattle.linesearch_theory.proofs.LawsTrials.{End, trials-made}
 use Rattle.linesearch_theory.proofs.LawsAsked.{asked}
 
 by-success : {P : Type 0} (b : Bool) → (b ≡ true → P) → (b ≡ false → P) → P
@@ -63,7 +63,9 @@ module _ (read : Float → Float) (gradients : Bool) (o : WolfeOptions) (l : Lin
   result-laws =
       record {
         trials-at-most = wp-map es text Any (λ fs r. r .trials ≤ o .evals) (λ fs r h. h .trials) any;
-        trials-made = trials-made read gradients o l initial es;
+        trials-made =
+            wp-map es text (End read gradients o l (λ a. Unit {0}) tt (λ a h. tt) (λ lo hi p q. tt) initial es) (Made read gradients o l initial es) (λ fs r h. h .0)
+            (trials-made read gradients o l (λ a. Unit {0}) tt (λ a h. tt) (λ lo hi p q. tt) initial es tt);
         success-meets = wp-map es text Any _ (λ fs r h e. (h .succeeded e .1, h .succeeded e .2)) any;
         failure-below = wp-map es text Any _ (λ fs r h e. ⊎-elim (λ k. inl (heard-finite fs (r .at .x) (r .at .trial .value) (k .0 .1 .heard) (k .1), k .2)) (λ k. inr k) (h .failed e)) any;
         together = wp-map es text Any _ (λ fs r h. ⊎-elim (λ k. inl (k .together)) (λ k. inr k) (tried-or-start fs r h)) any;
@@ -79,11 +81,14 @@ module _ (read : Float → Float) (gradients : Bool) (o : WolfeOptions) (l : Lin
     doubled : (a : Float) → Plus a → Plus (minOf (two ⊗ a) (o .stepmax))
     doubled a p = min-plus (two ⊗ a) (o .stepmax) (twice-plus a p) stepmax-plus
 
+    first-plus : Plus (minOf initial (o .stepmax))
+    first-plus = min-plus initial (o .stepmax) (positive-plus initial initial-positive) stepmax-plus
+
     abbrev Stepped : List Exchange → WolfeResult → Type 0
     Stepped fs r = Result read gradients o l Plus tt doubled interpolate-plus fs r
 
     stepped : wp es text Stepped
-    stepped = results read gradients o l Plus tt doubled interpolate-plus initial es (min-plus initial (o .stepmax) (positive-plus initial initial-positive) stepmax-plus)
+    stepped = results read gradients o l Plus tt doubled interpolate-plus initial es first-plus
 
     at-start : Plus (begin .trial .step)
     unfolding startOf
@@ -125,6 +130,10 @@ module _ (read : Float → Float) (gradients : Bool) (o : WolfeOptions) (l : Lin
     step-laws =
         record {
           step-not-negative = wp-map es text Stepped (λ fs r. T (le plusZero (r .at .trial .step))) (λ fs r h. plus-le (r .at .trial .step) (step-plus fs r h)) stepped;
+          trials-not-negative =
+              wp-map es text (End read gradients o l Plus tt doubled interpolate-plus initial es)
+              (λ fs r. (m : Made read gradients o l initial es fs r) × ((t : Evaluation) → List·Memᴰ t (m .made) → T (le plusZero (t .trial .step))))
+              (λ fs r h. (h .0, λ t m. plus-le (t .trial .step) (h .1 t m))) (trials-made read gradients o l Plus tt doubled interpolate-plus initial es first-plus);
           asked-not-negative = asked read gradients o l initial initial-positive stepmax-positive;
           success-not-above = λ d. wp-map es text Stepped (λ fs r. r .success ≡ true → Lower fs (r .at)) (succeeds d) stepped;
           result-not-above = λ d t. wp-map es text (λ fs r. Grows es fs × Stepped fs r) (λ fs r. Lower fs (r .at)) (λ fs r h. ends d t fs r (h .0) (h .1)) (wp-grows es text Stepped stepped);

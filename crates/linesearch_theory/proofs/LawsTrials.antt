@@ -1,5 +1,5 @@
 -- The trials of a search, in their order: each asks for its value and then for its gradient, and the first of the least finite ones is the best (`trials-made`). Assumes nothing.
-use Prim.Native.Nat.{ℕ, zero, suc, _+_, _-_}
+use Prim.Native.Nat.{ℕ, zero, suc, _+_}
 use native.Mathlib.Omega.{arith}
 use mathlib.Core.Path.{_≡_, refl, sym, _∙_, ap, subst}
 use mathlib.Core.Logic.{_⊎_, inl, inr, ⊎-elim}
@@ -9,8 +9,8 @@ use mathlib.Core.Bool.{Bool, true, false, cond, true≢false, false≢true}
 use lib.Dec.{T}
 use lib.ListN.{length, length-append, getD, set}
 use lib.Ieee.{Float, nan, lt, le}
-use Rattle.float.specs.Binary64.{NotAbove}
-use Rattle.float.specs.Values.{Finite, finiteOf}
+use Rattle.float.specs.Binary64.{NotAbove, _⊗_, plusZero}
+use Rattle.float.specs.Values.{Finite, finiteOf, minOf}
 use Rattle.float.proofs.Order.{lt-le-trans, le-lt-trans, lt→le, not-lt→le, by-test}
 use Rattle.float.proofs.Signs.{finite-number}
 use Rattle.vector.specs.Loops.{at}
@@ -22,10 +22,13 @@ use Rattle.protocol.specs.Ask.{Ask, finish, askValue, _>>=_, heardAt, wp}
 use Rattle.protocol.proofs.Texts.{wp-bind, wp-map}
 use Rattle.protocol.proofs.Replies.{true-T, not-above-self}
 use Rattle.objective.specs.Algorithm.{forwardOf, backwardOf, slopeAt, differencesFrom, evalGradient}
+use Rattle.linesearch.specs.declared.Trial.{Trial}
 use Rattle.linesearch.specs.declared.Evaluation.{Evaluation}
 use Rattle.linesearch.specs.declared.Line.{Line}
+use Rattle.linesearch.specs.Cubic.{interpolateOf}
+use Rattle.linesearch.specs.Trials.{two}
 use Rattle.linesearch_theory.specs.Algorithm.{WolfeResult, eval, keep, start, bestOrStart, search}
-use Rattle.linesearch_theory.specs.Laws.{OfGradient, Trials, FirstLeast, Made}
+use Rattle.linesearch_theory.specs.Laws.{Together, OfGradient, Trials, FirstLeast, Made}
 use Rattle.linesearch_theory.proofs.LawsInduction.{Invariant, search-holds, given-cases}
 use Rattle.linesearch_theory.proofs.LawsTold.{pt, made, valued}
 
@@ -70,43 +73,64 @@ module _ (read : Float → Float) (x : List Float) where
 
 -- ---- one trial
 
-pub record One (gradients : Bool) (es fs : List Exchange) (t : Evaluation) : Type 0 where
+pub record One (gradients : Bool) (l : Line) (es fs : List Exchange) (t : Evaluation) : Type 0 where
   pub number : ℕ
   pub words : List Float
   pub rest : List Exchange
   pub value : readOf (getD words 0 nan) ≡ t .trial .value
+  pub together : Together l t
   pub gradient : (e : Exchange) → List·Memᴰ e rest → OfGradient gradients (t .x) e
   pub exchanges : es ++ (heardAt number Value (t .x) words ∷ rest) ≡ fs
 
 -- one trial more
-trials-more : (gradients : Bool) (es fs gs : List Exchange) (ts : List Evaluation) (t : Evaluation) → Trials gradients es fs ts → One gradients fs gs t → Trials gradients es gs (ts ++ (t ∷ []))
-trials-more gradients es fs gs [] t h k =
-    (k .number, k .words, k .rest, k .value, k .gradient, ap (λ (z : List Exchange). z ++ (heardAt (k .number) Value (t .x) (k .words) ∷ k .rest)) h ∙ k .exchanges)
-trials-more gradients es fs gs (u ∷ ts) t h k = (h .0, h .1, h .2, h .3, h .4, trials-more gradients _ fs gs ts t (h .5) k)
+trials-more : (gradients : Bool) (l : Line) (es fs gs : List Exchange) (ts : List Evaluation) (t : Evaluation) → Trials gradients l es fs ts → One gradients l fs gs t
+    → Trials gradients l es gs (ts ++ (t ∷ []))
+trials-more gradients l es fs gs [] t h k =
+    (k .number, k .words, k .rest, k .value, k .together, k .gradient, ap (λ (z : List Exchange). z ++ (heardAt (k .number) Value (t .x) (k .words) ∷ k .rest)) h ∙ k .exchanges)
+trials-more gradients l es fs gs (u ∷ ts) t h k = (h .0, h .1, h .2, h .3, h .4, h .5, trials-more gradients l _ fs gs ts t (h .6) k)
 
 module _ (read : Float → Float) (gradients : Bool) (o : WolfeOptions) (l : Line) where
-  eval-one : (a : Float) (es : List Exchange) → wp es (eval read gradients o l a) (One gradients es)
-  eval-one a es = wp-bind es (askValue readOf x) (λ v. valued read gradients o l a v (finiteOf v)) (One gradients es) (λ n w k i. go n w (finiteOf (readOf (getD w 0 nan))))
+  -- its step is a
+  abbrev OneAt : Float → List Exchange → List Exchange → Evaluation → Type 0
+  OneAt a es fs t = One gradients l es fs t × (t .trial .step ≡ a)
+
+  eval-one : (a : Float) (es : List Exchange) → wp es (eval read gradients o l a) (OneAt a es)
+  eval-one a es = wp-bind es (askValue readOf x) (λ v. valued read gradients o l a v (finiteOf v)) (OneAt a es) (λ n w k i. go n w (finiteOf (readOf (getD w 0 nan))) refl)
     where
       x : List Float
       x = pt read gradients o l a
 
-      go : (n : ℕ) (w : List Float) (b : Bool) → wp (es ++ (heardAt n Value x w ∷ [])) (valued read gradients o l a (readOf (getD w 0 nan)) b) (One gradients es)
-      go n w true =
+      go : (n : ℕ) (w : List Float) (b : Bool) → finiteOf (readOf (getD w 0 nan)) ≡ b → wp (es ++ (heardAt n Value x w ∷ [])) (valued read gradients o l a (readOf (getD w 0 nan)) b) (OneAt a es)
+      go n w true i =
           let fs = es ++ (heardAt n Value x w ∷ []) in
           let v = readOf (getD w 0 nan) in
-          wp-bind fs (evalGradient read gradients x) (λ g. finish (made read gradients o l a v g)) (One gradients es)
-          (wp-map fs (evalGradient read gradients x) (λ gs g. Rest gradients x fs gs) (λ gs g. One gradients es gs (made read gradients o l a v g))
-          (λ gs g r. record {
-            number = n;
-            words = w;
-            rest = r .0;
-            value = refl;
-            gradient = r .2;
-            exchanges = sym (append-assoc es (heardAt n Value x w ∷ []) (r .0)) ∙ sym (r .1);
-          })
+          wp-bind fs (evalGradient read gradients x) (λ g. finish (made read gradients o l a v g)) (OneAt a es)
+          (wp-map fs (evalGradient read gradients x) (λ gs g. Rest gradients x fs gs) (λ gs g. OneAt a es gs (made read gradients o l a v g))
+          (λ gs g r. (
+            record {
+              number = n;
+              words = w;
+              rest = r .0;
+              value = refl;
+              together = record { point = refl; slope = λ f. refl };
+              gradient = r .2;
+              exchanges = sym (append-assoc es (heardAt n Value x w ∷ []) (r .0)) ∙ sym (r .1);
+            },
+            refl,
+          ))
           (gradient-rest read x gradients fs))
-      go n w false = record { number = n; words = w; rest = []; value = refl; gradient = λ e m. absurd (List·Memᴰ·not-nil m); exchanges = refl }
+      go n w false i = (
+        record {
+          number = n;
+          words = w;
+          rest = [];
+          value = refl;
+          together = record { point = refl; slope = λ f. absurd (subst T i f) };
+          gradient = λ e m. absurd (List·Memᴰ·not-nil m);
+          exchanges = refl;
+        },
+        refl,
+      )
 
 -- ---- the first of the least
 
@@ -177,66 +201,75 @@ module _ (read : Float → Float) (gradients : Bool) (o : WolfeOptions) (l : Lin
 
 -- ---- the search
 
-module _ (read : Float → Float) (gradients : Bool) (o : WolfeOptions) (l : Line) (initial : Float) (es : List Exchange) where
-  abbrev End : List Exchange → WolfeResult → Type 0
-  End fs r = Made read gradients o l initial es fs r
+-- `Step` holds of the steps tried: each is made from such ones
+module _ (read : Float → Float) (gradients : Bool) (o : WolfeOptions) (l : Line) (Step : Float → Type 0) (at-zero : Step plusZero)
+    (doubled : (a : Float) → Step a → Step (minOf (two ⊗ a) (o .stepmax))) (between : (lo hi : Trial) → Step (lo .step) → Step (hi .step) → Step (interpolateOf lo hi))
+    (initial : Float) (es : List Exchange) where
+  abbrev Steps : List Evaluation → Type 0
+  Steps ts = (t : Evaluation) → List·Memᴰ t ts → Step (t .trial .step)
+
+  abbrev pub End : List Exchange → WolfeResult → Type 0
+  End fs r = (m : Made read gradients o l initial es fs r) × Steps (m .made)
 
   -- the exchanges so far, and the trials so far
   abbrev State : Type 0
   State = List Exchange × List Evaluation
 
   abbrev Then : ℕ → State → Ask WolfeResult → Type 0
-  Then k c m = Trials gradients es (c .0) (c .1) → length (c .1) + k ≡ o .evals → wp (c .0) m End
+  Then k c m = Trials gradients l es (c .0) (c .1) → length (c .1) + k ≡ o .evals → Steps (c .1) → wp (c .0) m End
 
-  tries : (k : ℕ) (c : State) (a : Float) (best : Option Evaluation) (f : Evaluation → Ask WolfeResult) → BestOf (c .1) best
-      → ((d : State) (t : Evaluation) → (us : List Evaluation) × (d .1 ≡ us ++ (t ∷ [])) → BestOf (d .1) (keep read gradients o l t best) → Then k d (f t))
-      → Then (suc k) c (eval read gradients o l a >>= f)
-  tries k c a best f b h tr n =
+  -- t is the last trial
+  abbrev Last : State → Evaluation → Type 0
+  Last c t = Step (t .trial .step) × ((us : List Evaluation) × (c .1 ≡ us ++ (t ∷ [])))
+
+  steps-more : (ts : List Evaluation) (t : Evaluation) → Steps ts → Step (t .trial .step) → Steps (ts ++ (t ∷ []))
+  steps-more ts t h p u m = ⊎-elim (λ i. h u i) (λ i. subst (λ (z : Evaluation). Step (z .trial .step)) (sym (List·Memᴰ·eq-of-singleton i)) p) (List·Memᴰ·append-cases ts m)
+
+  tries : (k : ℕ) (c : State) (a : Float) (best : Option Evaluation) (f : Evaluation → Ask WolfeResult) → Step a → BestOf (c .1) best
+      → ((d : State) (t : Evaluation) → Last d t → BestOf (d .1) (keep read gradients o l t best) → Then k d (f t)) → Then (suc k) c (eval read gradients o l a >>= f)
+  tries k c a best f s b h asked n p =
       let m = eval read gradients o l a in
       wp-bind (c .0) m f End
-      (wp-map (c .0) m (One gradients (c .0)) (λ fs t. wp fs (f t) End)
-      (λ fs t p.
-      h (fs, c .1 ++ (t ∷ [])) t (c .1, refl) (keeps read gradients o l (c .1) t best b) (trials-more gradients es (c .0) fs (c .1) t tr p)
-      (omega (arith, length-append (c .1) (t ∷ []))))
+      (wp-map (c .0) m (OneAt read gradients o l a (c .0)) (λ fs t. wp fs (f t) End)
+      (λ fs t q.
+      let step : Step (t .trial .step) = subst Step (sym (q .1)) s in
+      h (fs, c .1 ++ (t ∷ [])) t (step, (c .1, refl)) (keeps read gradients o l (c .1) t best b) (trials-more gradients l es (c .0) fs (c .1) t asked (q .0))
+      (omega (arith, length-append (c .1) (t ∷ []))) (steps-more (c .1) t p step))
       (eval-one read gradients o l a (c .0)))
 
   none-below : (ts : List Evaluation) (b : Evaluation) → FirstLeast ts b → lt (valueOf b) (l .f) ≡ false → (t : Evaluation) → List·Memᴰ t ts → Finite (valueOf t) → NotAbove (l .f) (valueOf t)
   none-below ts b h e t m f =
       by-test (lt (valueOf t) (l .f)) (λ i. absurd (subst T e (le-lt-trans (valueOf b) (valueOf t) (l .f) (least-le ts b h t m f) i))) (λ i. i)
 
-  fails : (k : ℕ) (c : State) (best : Option Evaluation) → BestOf (c .1) best → Trials gradients es (c .0) (c .1) → length (c .1) + k ≡ o .evals
-      → End (c .0) (record { success = false; at = bestOrStart read gradients o l best; trials = o .evals - k })
-  fails k c none b tr n =
-      record { made = c .1; asked = tr; count = omega arith; success-last = λ e. absurd (false≢true e); failure-best = λ e. inr (refl, λ t m f. absurd (b t m f)) }
-  fails k c (some s) b tr n =
-      record {
-        made = c .1;
-        asked = tr;
-        count = omega arith;
-        success-last = λ e. absurd (false≢true e);
-        failure-best = λ e.
-            given-cases read gradients o l
-            (λ at. (FirstLeast (c .1) at × T (lt (valueOf at) (l .f)))
-            ⊎ ((at ≡ start read gradients o l) × ((t : Evaluation) → List·Memᴰ t (c .1) → Finite (valueOf t) → NotAbove (l .f) (valueOf t)))) s
-            (λ i. inl (b, true-T (lt (valueOf s) (l .f)) i)) (λ i. inr (refl, none-below (c .1) s b i));
-      }
+  -- what a failure gives, of the trials ts
+  abbrev Given : List Evaluation → Evaluation → Type 0
+  Given ts at =
+      (FirstLeast ts at × T (lt (valueOf at) (l .f))) ⊎ ((at ≡ start read gradients o l) × ((t : Evaluation) → List·Memᴰ t ts → Finite (valueOf t) → NotAbove (l .f) (valueOf t)))
+
+  given : (ts : List Evaluation) (best : Option Evaluation) → BestOf ts best → Given ts (bestOrStart read gradients o l best)
+  given ts none b = inr (refl, λ t m f. absurd (b t m f))
+  given ts (some s) b = given-cases read gradients o l (Given ts) s (λ i. inl (b, true-T (lt (valueOf s) (l .f)) i)) (λ i. inr (refl, none-below ts s b i))
 
   invariant : Invariant read gradients o l
   invariant = record {
     State = State;
     Then = Then;
-    Step = λ a. Unit {0};
-    Fine = λ c t. (us : List Evaluation) × (c .1 ≡ us ++ (t ∷ []));
+    Step = Step;
+    Fine = Last;
     Best = λ c b. BestOf (c .1) b;
-    at-zero = tt;
-    doubled = λ a h. tt;
-    between = λ lo hi p q. tt;
-    fine-step = λ c t h. tt;
-    tries = λ k c a best f s b h. tries k c a best f b h;
-    fails = fails;
-    succeeds = λ k c t h i j tr n. record { made = c .1; asked = tr; count = omega arith; success-last = λ e. h; failure-best = λ e. absurd (true≢false e) };
+    at-zero = at-zero;
+    doubled = doubled;
+    between = between;
+    fine-step = λ c t h. h .0;
+    tries = tries;
+    fails = λ k c best b asked n p. (
+      record { made = c .1; asked = asked; count = omega arith; success-last = λ e. absurd (false≢true e); failure-best = λ e. given (c .1) best b },
+      p,
+    );
+    succeeds = λ k c t h i j asked n p. (record { made = c .1; asked = asked; count = omega arith; success-last = λ e. h .1; failure-best = λ e. absurd (true≢false e) }, p);
   }
 
-  pub trials-made : wp es (search read gradients o l initial) End
+  pub trials-made : Step (minOf initial (o .stepmax)) → wp es (search read gradients o l initial) End
   unfolding invariant
-  trials-made = search-holds read gradients o l invariant (es, []) initial tt (λ t m f. absurd (List·Memᴰ·not-nil m)) refl (omega arith)
+  trials-made s =
+      search-holds read gradients o l invariant (es, []) initial s (λ t m f. absurd (List·Memᴰ·not-nil m)) refl (omega arith) (λ t m. absurd (List·Memᴰ·not-nil m))

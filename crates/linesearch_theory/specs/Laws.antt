@@ -79,12 +79,12 @@ abbrev pub OfGradient : Bool → List Float → Exchange → Type 0
 OfGradient true y e = (e .question .kind ≡ Gradient) × (e .question .point ≡ y)
 OfGradient false y e = (e .question .kind ≡ Value) × Probe y (e .question .point)
 
--- the trials ts, made one after the other from the exchanges es to fs: each asks for its value, and then for its gradient
-abbrev pub Trials : Bool → List Exchange → List Exchange → List Evaluation → Type 0
-Trials gradients es fs [] = es ≡ fs
-Trials gradients es fs (t ∷ ts) =
-    (n : ℕ) × (w : List Float) × (rest : List Exchange) × (readOf (getD w 0 nan) ≡ t .trial .value) × ((e : Exchange) → List·Memᴰ e rest → OfGradient gradients (t .x) e)
-    × Trials gradients (es ++ (heardAt n Value (t .x) w ∷ rest)) fs ts
+-- the trials ts, made one after the other from the exchanges es to fs: each asks for its value at the point of its step, and then for its gradient there
+abbrev pub Trials : Bool → Line → List Exchange → List Exchange → List Evaluation → Type 0
+Trials gradients l es fs [] = es ≡ fs
+Trials gradients l es fs (t ∷ ts) =
+    (n : ℕ) × (w : List Float) × (rest : List Exchange) × (readOf (getD w 0 nan) ≡ t .trial .value) × Together l t × ((e : Exchange) → List·Memᴰ e rest → OfGradient gradients (t .x) e)
+    × Trials gradients l (es ++ (heardAt n Value (t .x) w ∷ rest)) fs ts
 
 -- b is the first of the least finite ones of ts
 pub record FirstLeast (ts : List Evaluation) (b : Evaluation) : Type 0 where
@@ -103,7 +103,7 @@ module _ (read : Float → Float) (gradients : Bool) (o : WolfeOptions) (l : Lin
   -- the trials that a search made which ended with r after fs
   pub record Made (fs : List Exchange) (r : WolfeResult) : Type 0 where
     pub made : List Evaluation
-    pub asked : Trials gradients es fs made
+    pub asked : Trials gradients l es fs made
     pub count : r .trials ≡ length made
     pub success-last : r .success ≡ true → (ts : List Evaluation) × (made ≡ ts ++ (r .at ∷ []))
     -- 01: "A failure gives the best finite trial below f0, first on ties, else step 0 and the start."
@@ -125,8 +125,9 @@ module _ (read : Float → Float) (gradients : Bool) (o : WolfeOptions) (l : Lin
 
   -- with a first step and a step_max above zero
   pub record StepLaws : Type 0 where
-    -- a step is never negative and never a NaN: the result's, and that of every trial
+    -- a step is never negative and never a NaN: the result's, that of every trial, and that of every question
     pub step-not-negative : Ends (λ fs r. T (le plusZero (r .at .trial .step)))
+    pub trials-not-negative : Ends (λ fs r. (m : Made fs r) × ((t : Evaluation) → List·Memᴰ t (m .made) → T (le plusZero (t .trial .step))))
     pub asked-not-negative : Puts (AtStep gradients l) (search read gradients o l initial)
     -- Armijo as computed never lets f rise
     pub success-not-above : Descending o l → Ends (λ fs r. r .success ≡ true → EvaluationTold fs (r .at) × T (le (r .at .trial .value) (l .f)))

@@ -5,7 +5,7 @@ use native.Mathlib.Nat.{le-trans, le-refl, mul-le-mul-right, suc-mul, mul-zero, 
 use native.Mathlib.Omega.{arith}
 use mathlib.Core.Path.{_≡_, refl, sym, _∙_, ap, subst}
 use mathlib.Core.Logic.{inl, inr}
-use mathlib.Core.Bool.{Bool, true, false, not, _&&_, _||_, cond}
+use mathlib.Core.Bool.{Bool, true, false, not, _&&_, _||_}
 use mathlib.Core.List.{List}
 use lib.Dec.{eqb, nleb→lt}
 use lib.ListN.{length}
@@ -18,7 +18,7 @@ use Rattle.protocol.specs.declared.Kind.the-variants.{Value, Gradient}
 use Rattle.protocol.specs.declared.SimplexOptions.{SimplexOptions}
 use Rattle.protocol.specs.declared.GradientOptions.{GradientOptions}
 use Rattle.protocol.specs.declared.Termination.{Termination}
-use Rattle.protocol.specs.declared.Termination.the-variants.{StepTolerance, FunctionTolerance, LineSearchFailed, GradientFailed}
+use Rattle.protocol.specs.declared.Termination.the-variants.{LineSearchFailed, GradientFailed}
 use Rattle.protocol.specs.Protocol.{readOf, Job, Fit}
 use Rattle.protocol.specs.Claim.{Limit, limit, unlimited, _⊑_, ofKind, run}
 use Rattle.protocol.specs.Ask.{Ask, finish, askValue, _>>=_}
@@ -28,7 +28,7 @@ use Rattle.protocol.specs.Fits.{fits}
 use Rattle.protocol.proofs.Bounds.{costs-more, costs-bind, cond-costs, keeps-by-cost, all-questions, questions-at-most}
 use Rattle.protocol.proofs.FitsBounds.{bfgs-bounds, lbfgs-bounds}
 use Rattle.objective.specs.Algorithm.{evalGradient}
-use Rattle.hessian.specs.Algorithm.{direction, newHessian}
+use Rattle.hessian.specs.Algorithm.{direction}
 use Rattle.linesearch.specs.declared.Evaluation.{Evaluation}
 use Rattle.linesearch.specs.declared.Line.{Line}
 use Rattle.linesearch_theory.specs.Algorithm.{Searched, refuses, gives, search, wolfeRefusal, lineFrom, strongWolfe}
@@ -36,7 +36,7 @@ use Rattle.linesearch_theory.specs.Counts.{perGradient, perTrial}
 use Rattle.linesearch_theory.proofs.Counts.{counts as search-counts}
 use Rattle.quasinewton_theory.specs.Algorithm.{Position, stepped, smallDecrease, smallStep, stopsLower, succeeded, concluded, initialStep, searched, notDescending, iterated, round, withGradient, withValue, opened, opening, quasiNewton}
 use Rattle.quasinewton_theory.specs.Counts.{withGradients, withoutGradients, GradientBounds, GradientJob, GradientCounts}
-use Rattle.quasinewton_theory.proofs.Laws.{opening-case, no-restart}
+use Rattle.quasinewton_theory.proofs.Laws.{by-test, opening-case, no-restart}
 
 -- ---- what the texts ask
 
@@ -66,23 +66,15 @@ module _ (κ : Kind) (n : ℕ) where
 
     succeeded-end : (t : Evaluation) → length (t .x) ≤ n → Q (succeeded p t)
     unfolding stepped
-    succeeded-end t h = go (not (allFinite (t .g))) (smallDecrease (p .options .ftol) (p .f) (t .trial .value)) (smallStep (p .options .xtol) (p .x) (t .x))
-      where
-        go : (b c e : Bool)
-            → Q (cond b (stopsLower GradientFailed p t (lt (t .trial .value) (p .f)))
-            (cond c (stops FunctionTolerance (stepped p t)) (cond e (stops StepTolerance (stepped p t)) (atHead (stepped p t)))))
-        go true c e = stops-end GradientFailed t (lt (t .trial .value) (p .f))
-        go false true e = tt
-        go false false true = tt
-        go false false false = (h, refl, refl)
+    succeeded-end t h =
+        by-test Q (not (allFinite (t .g))) _ _ (λ i. stops-end GradientFailed t (lt (t .trial .value) (p .f)))
+        (λ i. by-test Q (smallDecrease (p .options .ftol) (p .f) (t .trial .value)) _ _ (λ j. tt)
+        (λ j. by-test Q (smallStep (p .options .xtol) (p .x) (t .x)) _ _ (λ k. tt) (λ k. (h, refl, refl))))
 
     concluded-end : (s : Searched) → Given s → Q (concluded p s)
     concluded-end (refuses w) h = tt
-    concluded-end (gives r) h = go (r .success)
-      where
-        go : (b : Bool) → Q (cond b (succeeded p (r .at)) (stopsLower LineSearchFailed p (r .at) (lt plusZero (r .at .trial .step) && lt (r .at .trial .value) (p .f))))
-        go true = succeeded-end (r .at) h
-        go false = stops-end LineSearchFailed (r .at) (lt plusZero (r .at .trial .step) && lt (r .at .trial .value) (p .f))
+    concluded-end (gives r) h =
+        by-test Q (r .success) _ _ (λ i. succeeded-end (r .at) h) (λ i. stops-end LineSearchFailed (r .at) (lt plusZero (r .at .trial .step) && lt (r .at .trial .value) (p .f)))
 
     -- E trials
     abbrev most : ℕ
@@ -121,7 +113,8 @@ module _ (κ : Kind) (n : ℕ) where
       costs-bind κ (ofKind κ Value) per (askValue readOf x) (withValue limits o x) (λ v. Unit {0}) (End o 0) (0, omega arith, λ w. tt)
       (λ v u. cond-costs κ per (not (finiteOf v)) (finish (fails 18 0)) (graded v) (End o 0) tt
       (costs-more κ (per + 0) per (graded v) (End o 0) (omega arith)
-      (costs-bind κ per 0 m (λ g. finish (withGradient limits o x v g)) (λ g. Unit {0}) (End o 0) (search-counts .gradient-costs κ readOf (o .gradients) x n h) (λ g t. last v g (not (allFinite g))))))
+      (costs-bind κ per 0 m (λ g. finish (withGradient limits o x v g)) (λ g. Unit {0}) (End o 0) (search-counts .gradient-costs κ readOf (o .gradients) x n h)
+      (λ g t. by-test (End o 0) (not (allFinite g)) _ _ (λ i. tt) (λ i. (h, refl, refl))))))
     where
       per : ℕ
       per = perGradient κ (o .gradients) n
@@ -131,11 +124,6 @@ module _ (κ : Kind) (n : ℕ) where
 
       graded : Float → Ask (Ending Position)
       graded v = m >>= λ g. finish (withGradient limits o x v g)
-
-      last : (v : Float) (g : List Float) (b : Bool)
-          → End o 0 (cond b (fails 19 0) (atHead (record { options = o; x = x; f = v; g = g; hess = newHessian limits (o .memory) (length x); iterations = 0; first = true })))
-      last v g true = tt
-      last v g false = (h, refl, refl)
 
 -- ---- room under the allowance
 

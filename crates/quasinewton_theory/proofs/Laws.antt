@@ -15,7 +15,7 @@ use Rattle.float.proofs.Order.{le→not-above}
 use Rattle.vector.specs.Lists.{dot, infNorm, allFinite, difference, negation}
 use Rattle.protocol.specs.declared.GradientOptions.{GradientOptions}
 use Rattle.protocol.specs.declared.Termination.{Termination}
-use Rattle.protocol.specs.declared.Termination.the-variants.{GradientTolerance, StepTolerance, FunctionTolerance, LineSearchFailed, GradientFailed}
+use Rattle.protocol.specs.declared.Termination.the-variants.{GradientTolerance, LineSearchFailed, GradientFailed}
 use Rattle.protocol.specs.Protocol.{readOf}
 use Rattle.protocol.specs.Claim.{Exchange, F64s, endsFit}
 use Rattle.protocol.specs.Ask.{Ask, finish, askValue, _>>=_, wp, Grows}
@@ -55,6 +55,10 @@ or-left false b e = refl
 or-right : (a b : Bool) → a || b ≡ false → b ≡ false
 or-right true b e = absurd (true≢false e)
 or-right false b e = e
+
+pub by-test : {A : Type 0} (P : A → Type 0) (b : Bool) (m n : A) → (b ≡ true → P m) → (b ≡ false → P n) → P (cond b m n)
+by-test P true m n h k = h refl
+by-test P false m n h k = k refl
 
 -- ---- how a round ends
 
@@ -115,24 +119,18 @@ module _ (es : List Exchange) (p : Position) (d : List Float) (a : AtHead es p) 
 
     succeeded-ok : RoundEnds p fs (succeeded p t)
     unfolding stepped
-    succeeded-ok = go (allFinite (t .g)) (smallDecrease (p .options .ftol) (p .f) (t .trial .value)) (smallStep (p .options .xtol) (p .x) (t .x)) refl
-      where
-        go : (b c e : Bool) → allFinite (t .g) ≡ b
-            → RoundEnds p fs (cond (not b) (stopsLower GradientFailed p t (lt (t .trial .value) (p .f)))
-            (cond c (stops FunctionTolerance (stepped p t)) (cond e (stops StepTolerance (stepped p t)) (atHead (stepped p t)))))
-        go false c e i = stops-lower GradientFailed (lt (t .trial .value) (p .f)) (λ n. n) (true-T (lt (t .trial .value) (p .f)))
-        go true true e i = (lower .0, lower .1, (λ n. n), λ n. absurd n)
-        go true false true i = (lower .0, lower .1, (λ n. n), λ n. absurd n)
-        go true false false i = (stepped-head i, lower .1)
+    succeeded-ok =
+        by-test (RoundEnds p fs) (not (allFinite (t .g))) _ _ (λ i. stops-lower GradientFailed (lt (t .trial .value) (p .f)) (λ n. n) (true-T (lt (t .trial .value) (p .f))))
+        (λ i. by-test (RoundEnds p fs) (smallDecrease (p .options .ftol) (p .f) (t .trial .value)) _ _ (λ j. (lower .0, lower .1, (λ n. n), λ n. absurd n))
+        (λ j. by-test (RoundEnds p fs) (smallStep (p .options .xtol) (p .x) (t .x)) _ _ (λ k. (lower .0, lower .1, (λ n. n), λ n. absurd n))
+        (λ k. (stepped-head (not-false (allFinite (t .g)) i), lower .1))))
 
   concluded-ok : (fs : List Exchange) (r : WolfeResult) → Found es p d a s fs (r .at) → RoundEnds p fs (concluded p (gives r))
-  concluded-ok fs r h = go (r .success)
-    where
-      go : (b : Bool) → RoundEnds p fs (cond b (succeeded p (r .at)) (stopsLower LineSearchFailed p (r .at) (lt plusZero (r .at .trial .step) && lt (r .at .trial .value) (p .f))))
-      go true = succeeded-ok fs (r .at) h
-      go false =
-          let less = lt (r .at .trial .value) (p .f) in
-          stops-lower fs (r .at) h LineSearchFailed (lt plusZero (r .at .trial .step) && less) (λ n. n) (λ i. true-T less (and-right (lt plusZero (r .at .trial .step)) less i))
+  concluded-ok fs r h =
+      by-test (RoundEnds p fs) (r .success) _ _ (λ i. succeeded-ok fs (r .at) h)
+      (λ i.
+      let less = lt (r .at .trial .value) (p .f) in
+      stops-lower fs (r .at) h LineSearchFailed (lt plusZero (r .at .trial .step) && less) (λ n. n) (λ j. true-T less (and-right (lt plusZero (r .at .trial .step)) less j)))
 
   searched-ok : wp es (searched p d) (RoundEnds p)
   searched-ok =
@@ -168,30 +166,21 @@ round-case : (P : Ask (Ending Position) → Type 0) (es : List Exchange) (p : Po
     → ((d : List Float) → Searchable (iterated p) d → P (searched (iterated p) d)) → P (round p)
 unfolding notDescending
 round-case P es p a h k =
-    go (notDescending (dot (p .g) d) || not (allFinite d)) (notDescending (neg (dot (p .g) (p .g)))) refl refl
-  where
-    d : List Float
-    d = direction (p .hess) (p .g)
-
-    go : (b c : Bool) → notDescending (dot (p .g) d) || not (allFinite d) ≡ b → notDescending (neg (dot (p .g) (p .g))) ≡ c
-        → P (cond b (cond c (finish (stops LineSearchFailed (iterated p))) (searched (iterated p) (negation (p .g)))) (searched (iterated p) d))
-    go true true i j = h
-    go true false i j =
-        k (negation (p .g))
-        (record {
-          long = negation-long (length (p .x)) (p .g) (a .gradient-long);
-          finite = negation-finite (p .g) ∙ a .gradient-finite;
-          f64s = negation-f64s (p .g) (a .gradient-f64s);
-          slope = steepest (p .g) j;
-        })
-    go false c i j =
-        k d
-        (record {
-          long = directions .long (length (p .x)) (p .hess) (p .g) (a .shaped) (a .gradient-long);
-          finite = not-false (allFinite d) (or-right (notDescending (dot (p .g) d)) (not (allFinite d)) i);
-          f64s = directions .f64s (p .hess) (p .g);
-          slope = or-left (le plusZero (dot (p .g) d)) (not (finiteOf (dot (p .g) d))) (or-left (notDescending (dot (p .g) d)) (not (allFinite d)) i);
-        })
+    let d = direction (p .hess) (p .g) in
+    by-test P (notDescending (dot (p .g) d) || not (allFinite d)) _ _
+    (λ i. by-test P (notDescending (neg (dot (p .g) (p .g)))) _ _ (λ j. h)
+    (λ j. k _ (record {
+      long = negation-long (length (p .x)) (p .g) (a .gradient-long);
+      finite = negation-finite (p .g) ∙ a .gradient-finite;
+      f64s = negation-f64s (p .g) (a .gradient-f64s);
+      slope = steepest (p .g) j;
+    })))
+    (λ i. k _ (record {
+      long = directions .long (length (p .x)) (p .hess) (p .g) (a .shaped) (a .gradient-long);
+      finite = not-false (allFinite d) (or-right (notDescending (dot (p .g) d)) (not (allFinite d)) i);
+      f64s = directions .f64s (p .hess) (p .g);
+      slope = or-left (le plusZero (dot (p .g) d)) (not (finiteOf (dot (p .g) d))) (or-left (notDescending (dot (p .g) d)) (not (allFinite d)) i);
+    }))
 
 -- counting the iteration changes neither point nor value
 iterated-ends : (p : Position) (es : List Exchange) (e : Ending Position) → RoundEnds (iterated p) es e → RoundEnds p es e
@@ -225,22 +214,16 @@ opened-case : (Q : List Exchange → Ending Position → Type 0) (limits : Bool)
     → wp [] (opened limits o x) Q
 opened-case Q limits o x q18 q19 q =
     wp-bind [] (askValue readOf x) (withValue limits o x) Q
-    (wp-map [] (askValue readOf x) (Heard x) (λ fs v. wp fs (withValue limits o x v) Q) (λ fs v h. valued fs v h (finiteOf v) refl) (search-laws .evaluations .value-heard x []))
-  where
-    graded : (gs : List Exchange) (v : Float) (g : List Float) → ValueTold gs x v → F64s g → length g ≡ length x → (b : Bool) → allFinite g ≡ b
-        → Q gs (cond (not b) (fails 19 0) (atHead (begun limits o x v g)))
-    graded gs v g t w l true i = q gs v g t w l i
-    graded gs v g t w l false i = q19 gs
-
-    valued : (fs : List Exchange) (v : Float) → Heard x fs v → (b : Bool) → finiteOf v ≡ b
-        → wp fs (cond (not b) (finish (fails 18 0)) (evalGradient readOf (o .gradients) x >>= λ g. finish (withGradient limits o x v g))) Q
-    valued fs v h false i = q18 fs
-    valued fs v h true i =
-        let m = evalGradient readOf (o .gradients) x in
-        wp-bind fs m (λ g. finish (withGradient limits o x v g)) Q
-        (wp-map fs m (λ gs g. Grows fs gs × (F64s g × (length g ≡ length x))) (λ gs g. Q gs (withGradient limits o x v g))
-        (λ gs g k. graded gs v g (told-grows fs gs x v (k .0) (heard-finite fs x v h (true-T (finiteOf v) i))) (k .1 .0) (k .1 .1) (allFinite g) refl)
-        (wp-grows fs m _ (wp-both fs m (λ gs g. F64s g) (λ gs g. length g ≡ length x) (search-laws .evaluations .gradient-f64s readOf (o .gradients) x fs) (gradient-long readOf (o .gradients) x fs))))
+    (wp-map [] (askValue readOf x) (Heard x) (λ fs v. wp fs (withValue limits o x v) Q)
+    (λ fs v h. by-test (λ m. wp fs m Q) (not (finiteOf v)) _ _ (λ i. q18 fs)
+    (λ i.
+    let m = evalGradient readOf (o .gradients) x in
+    let told = heard-finite fs x v h (true-T (finiteOf v) (not-false (finiteOf v) i)) in
+    wp-bind fs m (λ g. finish (withGradient limits o x v g)) Q
+    (wp-map fs m (λ gs g. Grows fs gs × (F64s g × (length g ≡ length x))) (λ gs g. Q gs (withGradient limits o x v g))
+    (λ gs g k. by-test (Q gs) (not (allFinite g)) _ _ (λ j. q19 gs) (λ j. q gs v g (told-grows fs gs x v (k .0) told) (k .1 .0) (k .1 .1) (not-false (allFinite g) j)))
+    (wp-grows fs m _ (wp-both fs m (λ gs g. F64s g) (λ gs g. length g ≡ length x) (search-laws .evaluations .gradient-f64s readOf (o .gradients) x fs) (gradient-long readOf (o .gradients) x fs))))))
+    (search-laws .evaluations .value-heard x []))
 
 -- what holds of a refusal, and of the opening that asks, holds of the opening
 pub opening-case : (P : Ask (Ending Position) → Type 0) (limits : Bool) (o : GradientOptions) (x : List Float) → ((k d : ℕ) → P (finish (fails k d)))

@@ -38,33 +38,20 @@ square-plus (inf false) = refl
 square-plus (fin true m e) = round-plus (m * up e * (m * up e)) (down e * down e)
 square-plus (fin false m e) = round-plus (m * up e * (m * up e)) (down e * down e)
 
-add-mirror : (a b : Float) → NoMinus a → NoMinus b → neg a ⊕ neg b ≡ neg (a ⊕ b)
+add-mirror : (a b : Float) → NoMinus a → NoMinus b → (neg a ⊕ neg b ≡ neg (a ⊕ b)) × NoMinus (a ⊕ b)
 unfolding add neg sum
-add-mirror nan b u v = refl
+add-mirror nan b u v = (refl, refl)
 add-mirror (inf true) b u v = absurd (true≢false u)
-add-mirror (inf false) nan u v = refl
+add-mirror (inf false) nan u v = (refl, refl)
 add-mirror (inf false) (inf true) u v = absurd (true≢false v)
-add-mirror (inf false) (inf false) u v = refl
-add-mirror (inf false) (fin t n d) u v = refl
+add-mirror (inf false) (inf false) u v = (refl, refl)
+add-mirror (inf false) (fin t n d) u v = (refl, refl)
 add-mirror (fin true m e) b u v = absurd (true≢false u)
-add-mirror (fin false m e) nan u v = refl
-add-mirror (fin false m e) (inf t) u v = refl
+add-mirror (fin false m e) nan u v = (refl, refl)
+add-mirror (fin false m e) (inf t) u v = (refl, v)
 add-mirror (fin false m e) (fin true n d) u v = absurd (true≢false v)
-add-mirror (fin false m e) (fin false n d) u v = round-neg binary64 (m * up e * down d + n * up d * down e) (down e * down d)
-
-add-plus : (a b : Float) → NoMinus a → NoMinus b → NoMinus (a ⊕ b)
-unfolding add sum
-add-plus nan b u v = refl
-add-plus (inf true) b u v = absurd (true≢false u)
-add-plus (inf false) nan u v = refl
-add-plus (inf false) (inf true) u v = absurd (true≢false v)
-add-plus (inf false) (inf false) u v = refl
-add-plus (inf false) (fin t n d) u v = refl
-add-plus (fin true m e) b u v = absurd (true≢false u)
-add-plus (fin false m e) nan u v = refl
-add-plus (fin false m e) (inf t) u v = v
-add-plus (fin false m e) (fin true n d) u v = absurd (true≢false v)
-add-plus (fin false m e) (fin false n d) u v = round-plus (m * up e * down d + n * up d * down e) (down e * down d)
+add-mirror (fin false m e) (fin false n d) u v =
+    (round-neg binary64 (m * up e * down d + n * up d * down e) (down e * down d), round-plus (m * up e * down d + n * up d * down e) (down e * down d))
 
 -- ---- -0.0, which the sum begins with, plus ±p
 
@@ -106,8 +93,8 @@ mirror-from : (g : List Float) (a : Float) → NoMinus a → foldl _⊕_ (neg a)
 unfolding zipWith
 mirror-from [] a u = refl
 mirror-from (x ∷ g) a u =
-    ap (λ (z : Float). foldl _⊕_ z (zipWith _⊗_ g (map neg g))) (ap (λ (z : Float). neg a ⊕ z) (square-mirror x) ∙ add-mirror a (x ⊗ x) u (square-plus x))
-    ∙ mirror-from g (a ⊕ x ⊗ x) (add-plus a (x ⊗ x) u (square-plus x))
+    let h = add-mirror a (x ⊗ x) u (square-plus x) in
+    ap (λ (z : Float). foldl _⊕_ z (zipWith _⊗_ g (map neg g))) (ap (λ (z : Float). neg a ⊕ z) (square-mirror x) ∙ h .0) ∙ mirror-from g (a ⊕ x ⊗ x) (h .1)
 
 -- of one coordinate or more
 slope-mirror : (x : Float) (g : List Float) → dot (x ∷ g) (negation (x ∷ g)) ≡ neg (dot (x ∷ g) (x ∷ g))
