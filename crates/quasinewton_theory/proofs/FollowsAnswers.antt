@@ -1,6 +1,6 @@
 -- Each answer takes the record where it takes the text, in each phase with a question open: `follows`. Assumes nothing.
 use Prim.Native.Nat.{ℕ, _≤_, _<_, zero-le}
-use mathlib.Core.Path.{_≡_, refl, sym, ap, ap₂, _∙_, fun-ext}
+use mathlib.Core.Path.{_≡_, refl, sym, ap, _∙_, fun-ext}
 use mathlib.Core.Bool.{Bool, true, false, not, cond}
 use mathlib.Core.List.{List}
 use native.Mathlib.Omega.{arith}
@@ -12,7 +12,6 @@ use Rattle.float.specs.Values.{finiteOf}
 use Rattle.vector.specs.Points.{fromSliceOf, allFiniteOf}
 use Rattle.vector.specs.Lists.{first}
 use Rattle.vector.proofs.First.{point-laws, ties}
-use Rattle.protocol.specs.declared.Kind.{Kind}
 use Rattle.protocol.specs.declared.Kind.the-variants.{Value, Gradient}
 use Rattle.protocol.specs.Protocol.{readOf}
 use Rattle.protocol.specs.Ask.{Ask, finish, query, _>>=_}

@@ -1,40 +1,29 @@
 -- After a search the record ends or goes on to the next head as the text does: `missed-settles` and `succeeded-settles`. Assumes nothing.
-use Prim.Native.Nat.{ℕ, _≤_, _<_}
-use mathlib.Core.Path.{_≡_, refl, sym, ap, subst, _∙_}
+use Prim.Native.Nat.{ℕ, _≤_}
+use mathlib.Core.Path.{_≡_, refl, sym, ap, subst}
 use mathlib.Core.Bool.{Bool, true, false, not, _&&_, cond}
 use mathlib.Core.List.{List}
-use native.Mathlib.Omega.{arith}
-use borrow.Author.Tests.{eqb-true, eqb-false, eq-eqb, ne-eqb}
-use lib.Dec.{eqb}
-use lib.Ieee.{Float, lt, le}
+use lib.Ieee.{Float, lt}
 use Rattle.float.specs.Binary64.{plusZero}
-use Rattle.vector.specs.Points.{differenceOf, infNormOf, allFiniteOf}
-use Rattle.vector.specs.Lists.{first, allFinite}
+use Rattle.vector.specs.Points.{differenceOf}
+use Rattle.vector.specs.Lists.{first}
 use Rattle.vector.proofs.First.{point-laws, ties}
 use Rattle.protocol.specs.declared.Termination.{Termination}
 use Rattle.protocol.specs.declared.Termination.the-variants.{StepTolerance, FunctionTolerance, LineSearchFailed, GradientFailed}
-use Rattle.protocol.specs.Protocol.{readOf}
-use Rattle.protocol.specs.Ask.{Ask, finish, query, _>>=_}
-use Rattle.protocol.specs.Rounds.{Ending, atHead, stops, fails, Limits}
-use Rattle.objective.specs.Follows as differences
-use Rattle.objective.proofs.Follows.{follows as differences-follow}
+use Rattle.protocol.specs.Ask.{finish}
+use Rattle.protocol.specs.Rounds.{Ending, stops, Limits}
 use Rattle.hessian.specs.declared.Model.{Model}
 use Rattle.hessian.specs.Step.{updateOf}
 use Rattle.hessian.specs.Ties as hessian
 use Rattle.hessian.proofs.Ties.{hessian-ties}
 use Rattle.linesearch.specs.declared.Evaluation.{Evaluation}
-use Rattle.linesearch.specs.declared.Search.{Search}
-use Rattle.linesearch.specs.Step.{asksDifference, found, failed}
-use Rattle.linesearch_theory.specs.Algorithm.{WolfeResult, gives}
 use Rattle.linesearch_theory.specs.Follows as searches
-use Rattle.linesearch_theory.proofs.Follows.{search-follows}
 use Rattle.quasinewton.specs.declared.Fixed.{Fixed}
 use Rattle.quasinewton.specs.declared.Descent.{Descent}
 use Rattle.quasinewton.specs.declared.Moved.{Moved}
-use Rattle.quasinewton.specs.Step as step
-use Rattle.quasinewton.specs.Step.{searching, byFunction, byStep, bySearch, byGradientFailed, byRefusal, storesOf, smallDecreaseOf, smallStepOf, inPhase, withLine, valuedAt, searchFixed, moved, headedOf, lowerOf, missedOf, storedOf, steppedOf, succeededOf, settledOf}
-use Rattle.quasinewton_theory.specs.Algorithm.{Position, movedTo, stored, stepped, smallDecrease, smallStep, stopsLower, succeeded, concluded}
-use Rattle.quasinewton_theory.specs.Follows.{positionOf, graded, reasonOf, endingOf, toDo, settled, Allows, Shaped}
+use Rattle.quasinewton.specs.Step.{byFunction, byStep, bySearch, byGradientFailed, storesOf, smallDecreaseOf, smallStepOf, inPhase, withLine, valuedAt, moved, lowerOf, missedOf, storedOf, steppedOf, succeededOf}
+use Rattle.quasinewton_theory.specs.Algorithm.{Position, stored, stepped, smallDecrease, smallStep, stopsLower, succeeded}
+use Rattle.quasinewton_theory.specs.Follows.{positionOf, toDo, settled, Allows}
 use Rattle.quasinewton_theory.proofs.FollowsRound.{head-does}
 
 small-decrease-is : (tol before now : Float) → smallDecrease tol before now ≡ smallDecreaseOf tol before now

@@ -2,13 +2,12 @@
 -- protocol has it (`settles-as-fits`). Assumes nothing.
 use Prim.Native.Nat.{ℕ, _≤_, _<_}
 use mathlib.Core.Path.{_≡_, refl, sym, ap, _∙_}
-use mathlib.Core.Bool.{Bool, true, false, not, cond, false≢true, true≢false}
+use mathlib.Core.Bool.{Bool, true, false, cond}
 use mathlib.Core.Logic.{inr}
 use mathlib.Core.List.{List}
 use native.Mathlib.Omega.{arith}
-use borrow.Author.Tests.{eqb-true, eqb-false, eq-eqb, ne-eqb, leb-true, leb-false}
+use borrow.Author.Tests.{eqb-true, eqb-false, ne-eqb, leb-true, leb-false}
 use lib.Dec.{leb, eqb}
-use lib.ListN.{length}
 use lib.Ieee.{Float}
 use Rattle.vector.specs.Lists.{first}
 use Rattle.vector.proofs.First.{point-laws}
@@ -19,7 +18,6 @@ use Rattle.protocol.specs.Rounds.{Ending, atHead, stops, fails, Verdict, goOn, 
 use Rattle.protocol.specs.Rounds as rounds
 use Rattle.protocol.specs.Fits.{mapText, mapVerdict, fits}
 use Rattle.hessian.specs.declared.Model.{Model}
-use Rattle.hessian.specs.Algorithm.{InvHessian}
 use Rattle.hessian.specs.Step.{newModelOf}
 use Rattle.hessian.specs.Ties as hessian
 use Rattle.hessian.proofs.Ties.{hessian-ties}
@@ -33,7 +31,7 @@ use Rattle.quasinewton.specs.declared.Descent.{Descent}
 use Rattle.quasinewton.specs.declared.Moved.{Moved}
 use Rattle.quasinewton.specs.Step as step
 use Rattle.quasinewton.specs.Step.{firstValue, firstGradient, firstDifferences, searching, byRefusal, inPhase, searchFixed, moved, missedOf, succeededOf, settledOf, asksOf, startOf}
-use Rattle.quasinewton_theory.specs.Algorithm.{Position, concluded, tests, withValue, opened, quasiNewton}
+use Rattle.quasinewton_theory.specs.Algorithm.{Position, concluded, tests, opened, quasiNewton}
 use Rattle.quasinewton_theory.specs.Follows.{positionOf, reasonOf, endingOf, toDo, allowed, headed, settled, SettlesAsFits, Allows, Shaped, Stands}
 use Rattle.quasinewton_theory.proofs.FollowsRound.{head-does}
 use Rattle.quasinewton_theory.proofs.FollowsEnds.{missed-settles, succeeded-settles}
@@ -121,7 +119,8 @@ module _ (fixed : Fixed) where
         still i = ap (settled k v) (in-search fixed m q searching refl z i) ∙ sym (in-search fixed m q searching refl z i)
 
         go : (b : Bool) → eqb (s .phase) found ≡ b → (c : Bool) → eqb (s .phase) failed ≡ c
-            → settled k v (searches.toDo readOf (searchFixed fixed) (q .line) s >>= rest) ≡ goes (cond b (succeededOf fixed now m (s .best) v) (cond c (moved (missedOf now (s .best)) m) (moved now m)))
+            → settled k v (searches.toDo readOf (searchFixed fixed) (q .line) s >>= rest)
+            ≡ goes (cond b (succeededOf fixed now m (s .best) v) (cond c (moved (missedOf now (s .best)) m) (moved now m)))
         go true i c j =
             ap (λ (t : Ask WolfeResult). settled k v (t >>= rest)) (search-follows readOf (searchFixed fixed) (q .line) .ends-found s (eqb-true _ _ i))
             ∙ succeeded-settles fixed small k v allows now m (s .best) sized .settles
@@ -134,8 +133,10 @@ module _ (fixed : Fixed) where
     ending-stays : (q : Descent) → settled k v (finish (endingOf fixed q m)) ≡ finish (endingOf fixed q m)
     ending-stays q = go (eqb (q .phase) byRefusal)
       where
-        go : (b : Bool)
-            → settled k v (finish (cond b (fails (q .number) (q .detail)) (stops (reasonOf (q .phase)) (positionOf fixed q m)))) ≡ finish (cond b (fails (q .number) (q .detail)) (stops (reasonOf (q .phase)) (positionOf fixed q m)))
+        by : Bool → Ask (Ending Position)
+        by b = finish (cond b (fails (q .number) (q .detail)) (stops (reasonOf (q .phase)) (positionOf fixed q m)))
+
+        go : (b : Bool) → settled k v (by b) ≡ by b
         go true = refl
         go false = refl
 

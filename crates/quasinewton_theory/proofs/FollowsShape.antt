@@ -5,7 +5,7 @@ use mathlib.Core.Path.{_≡_, refl}
 use mathlib.Core.Bool.{Bool, true, false, not, cond}
 use mathlib.Core.List.{List}
 use native.Mathlib.Omega.{arith}
-use borrow.Author.Tests.{leb-false, ltb-true, eqb-true}
+use borrow.Author.Tests.{leb-false, ltb-true}
 use lib.Dec.{leb, ltb, eqb}
 use lib.Ieee.{Float, neg, lt, le}
 use Rattle.float.specs.Binary64.{plusZero}
@@ -25,7 +25,7 @@ use Rattle.quasinewton.specs.declared.Fixed.{Fixed}
 use Rattle.quasinewton.specs.declared.Descent.{Descent}
 use Rattle.quasinewton.specs.declared.Moved.{Moved}
 use Rattle.quasinewton.specs.Step as step
-use Rattle.quasinewton.specs.Step.{firstValue, firstGradient, firstDifferences, searching, byGradient, byFunction, byStep, byIterations, byFevals, bySearch, byGradientFailed, smallDecreaseOf, smallStepOf, initialStepOf, notDescendingOf, inPhase, refusedBy, withLine, withSearch, withDiff, valuedAt, searchFixed, soughtOf, searchedOf, steepestOf, directedOf, headedOf, lowerOf, missedOf, steppedOf, storedOf, succeededOf, settledOf, gradedOf, differingOf, valuedOf, toldOf, toldGradientOf}
+use Rattle.quasinewton.specs.Step.{firstValue, firstGradient, firstDifferences, searching, byGradient, byFunction, byStep, byIterations, byFevals, bySearch, byGradientFailed, byRefusal, smallDecreaseOf, smallStepOf, initialStepOf, notDescendingOf, inPhase, refusedBy, withLine, withSearch, withDiff, valuedAt, searchFixed, soughtOf, searchedOf, steepestOf, directedOf, headedOf, lowerOf, missedOf, steppedOf, storedOf, succeededOf, settledOf, gradedOf, differingOf, valuedOf, toldOf, toldGradientOf}
 use Rattle.quasinewton_theory.specs.Follows.{EveryPart}
 
 -- what lasts, where P is of the line's arrays, S of the search and D of the differences
@@ -60,21 +60,23 @@ module _ (fixed : Fixed) (P : List Float → Type 0) (S : Search → Type 0) (D 
   both true h k = h
   both false h k = k
 
+  -- with the parts of q
+  keeps : (q : Descent) (p k d : ℕ) (b : Bool) (r : ℕ) → firstValue ≤ p → p ≤ step.atHead → r ≤ fixed .iter → (p ≡ firstDifferences → q .diff .at < n) → EveryPart P S D q
+      → Last (record { phase = p; number = k; detail = d; first = b; rounds = r; line = q .line; search = q .search; diff = q .diff })
+  keeps q p k d b r i j l a h =
+      record { least = i; most = j; rounds = l; asked = a; parts = record { point = h .point; gradient = h .gradient; direction = h .direction; search = h .search; diff = h .diff } }
+
   -- in another phase, with the line l
   lined : (q : Descent) (p : ℕ) (l : Line) → firstValue ≤ p → p ≤ step.atHead → (p ≡ firstDifferences → q .diff .at < n) → P (l .x) → P (l .g) → P (l .d) → Last q → Last (withLine q p l)
   lined q p l i j a x g d h =
       record { least = i; most = j; rounds = h .rounds; asked = a; parts = record { point = x; gradient = g; direction = d; search = h .parts .search; diff = h .parts .diff } }
 
-  phased : (q : Descent) (p : ℕ) → firstValue ≤ p → p ≤ step.atHead → (p ≡ firstDifferences → q .diff .at < n) → Last q → Last (inPhase q p)
-  phased q p i j a h = record { least = i; most = j; rounds = h .rounds; asked = a; parts = record { point = h .parts .point; gradient = h .parts .gradient; direction = h .parts .direction; search = h .parts .search; diff = h .parts .diff } }
-
   -- in a phase of a fit that has ended or stands at a head
   past : (q : Descent) (p : ℕ) → searching < p → p ≤ step.atHead → Last q → Last (inPhase q p)
-  past q p i j h = phased q p (omega (arith, i)) j (λ e. omega (arith, i, e)) h
+  past q p i j h = keeps q p (q .number) (q .detail) (q .first) (q .rounds) (omega (arith, i)) j (h .rounds) (λ e. omega (arith, i, e)) (h .parts)
 
   refused : (q : Descent) (why : Refusal) → Last q → Last (refusedBy q why)
-  refused q why h =
-      record { least = omega arith; most = omega arith; rounds = h .rounds; asked = λ e. omega (arith, e); parts = record { point = h .parts .point; gradient = h .parts .gradient; direction = h .parts .direction; search = h .parts .search; diff = h .parts .diff } }
+  refused q why h = keeps q byRefusal (why .number) (why .detail) (q .first) (q .rounds) (omega arith) (omega arith) (h .rounds) (λ e. omega (arith, e)) (h .parts)
 
   -- ---- the opening
 
@@ -91,7 +93,14 @@ module _ (fixed : Fixed) (P : List Float → Type 0) (S : Search → Type 0) (D 
     where
       go : (b : Bool) → ltb (e .at) n ≡ b → Last (cond b (withDiff q firstDifferences e) (gradedOf fixed q (e .g)))
       go true j =
-          record { least = omega arith; most = omega arith; rounds = h .rounds; asked = λ f. ltb-true (e .at) n j; parts = record { point = h .parts .point; gradient = h .parts .gradient; direction = h .parts .direction; search = h .parts .search; diff = i } }
+          let k = h .parts in
+          record {
+            least = omega arith;
+            most = omega arith;
+            rounds = h .rounds;
+            asked = λ f. ltb-true (e .at) n j;
+            parts = record { point = k .point; gradient = k .gradient; direction = k .direction; search = k .search; diff = i };
+          }
       go false j = graded-lasts q (e .g) (makes .diff-gradient e i) h
 
   valued-lasts : (q : Descent) (v : Float) → Last q → Last (valuedOf fixed q v)
@@ -106,12 +115,14 @@ module _ (fixed : Fixed) (P : List Float → Type 0) (S : Search → Type 0) (D 
 
   searched-on : (q : Descent) (s : Search) → S s → Last q → Last (withSearch q s)
   searched-on q s i h =
-      record { least = h .least; most = h .most; rounds = h .rounds; asked = h .asked; parts = record { point = h .parts .point; gradient = h .parts .gradient; direction = h .parts .direction; search = i; diff = h .parts .diff } }
+      let k = h .parts in
+      record { least = h .least; most = h .most; rounds = h .rounds; asked = h .asked; parts = record { point = k .point; gradient = k .gradient; direction = k .direction; search = i; diff = k .diff } }
 
   pub told-lasts : (q : Descent) (v : Float) → Last q → Last (toldOf fixed q v)
   unfolding toldOf
   told-lasts q v h =
-      both (eqb (q .phase) searching) (searched-on q (linesearch.toldOf (searchFixed fixed) (q .line) (q .search) v v) (makes .search-told (q .line) (q .search) v (h .parts .point) (h .parts .gradient) (h .parts .search)) h)
+      let s = makes .search-told (q .line) (q .search) v (h .parts .point) (h .parts .gradient) (h .parts .search) in
+      both (eqb (q .phase) searching) (searched-on q (linesearch.toldOf (searchFixed fixed) (q .line) (q .search) v v) s h)
       (both (eqb (q .phase) firstValue) (valued-lasts q v h) (both (not (eqb (q .phase) firstDifferences)) h (go (ltb (q .diff .at) n) refl)))
     where
       go : (b : Bool) → ltb (q .diff .at) n ≡ b → Last (cond b (differingOf fixed q (objective.toldOf (q .diff) v)) q)
@@ -121,7 +132,8 @@ module _ (fixed : Fixed) (P : List Float → Type 0) (S : Search → Type 0) (D 
   pub told-gradient-lasts : (q : Descent) (g : List Float) → P g → Last q → Last (toldGradientOf fixed q g)
   unfolding toldGradientOf
   told-gradient-lasts q g i h =
-      both (eqb (q .phase) searching) (searched-on q (linesearch.toldGradientOf (searchFixed fixed) (q .line) (q .search) g) (makes .search-graded (q .line) (q .search) g i (h .parts .point) (h .parts .gradient) (h .parts .search)) h)
+      let s = makes .search-graded (q .line) (q .search) g i (h .parts .point) (h .parts .gradient) (h .parts .search) in
+      both (eqb (q .phase) searching) (searched-on q (linesearch.toldGradientOf (searchFixed fixed) (q .line) (q .search) g) s h)
       (both (eqb (q .phase) firstGradient) (graded-lasts q g i h) h)
 
   -- ---- a round
@@ -169,7 +181,8 @@ module _ (fixed : Fixed) (P : List Float → Type 0) (S : Search → Type 0) (D 
       go : (b : Bool) → leb (fixed .iter) (q .rounds) ≡ b → Last (cond b (inPhase q byIterations) (cond (leb (fixed .fevals) v) (inPhase q byFevals) (directedOf fixed (step.iterated q) d)))
       go true e = past q byIterations (omega arith) (omega arith) h
       go false e =
-          let counted : Last (step.iterated q) = record { least = h .least; most = h .most; rounds = omega (arith, leb-false (fixed .iter) (q .rounds) e); asked = h .asked; parts = record { point = h .parts .point; gradient = h .parts .gradient; direction = h .parts .direction; search = h .parts .search; diff = h .parts .diff } } in
+          let within : q .rounds + 1 ≤ fixed .iter = omega (arith, leb-false (fixed .iter) (q .rounds) e) in
+          let counted : Last (step.iterated q) = keeps q (q .phase) (q .number) (q .detail) (q .first) (q .rounds + 1) (h .least) (h .most) within (h .asked) (h .parts) in
           both (leb (fixed .fevals) v) (past q byFevals (omega arith) (omega arith) h) (directed-lasts (step.iterated q) d (makes .direction-of m (q .line .g)) counted)
 
   -- ---- after a search
@@ -177,7 +190,8 @@ module _ (fixed : Fixed) (P : List Float → Type 0) (S : Search → Type 0) (D 
   lower-lasts : (q : Descent) (why : ℕ) (t : Evaluation) → searching < why → why ≤ step.atHead → P (t .x) → Last q → Last (lowerOf q why t)
   unfolding lowerOf
   lower-lasts q why t i j x h =
-      both (lt (t .trial .value) (q .line .f)) (lined q why (valuedAt q (t .x) (t .trial .value)) (omega (arith, i)) j (λ e. omega (arith, i, e)) x (h .parts .gradient) (h .parts .direction) h) (past q why i j h)
+      let l = valuedAt q (t .x) (t .trial .value) in
+      both (lt (t .trial .value) (q .line .f)) (lined q why l (omega (arith, i)) j (λ e. omega (arith, i, e)) x (h .parts .gradient) (h .parts .direction) h) (past q why i j h)
 
   missed-lasts : (q : Descent) (t : Evaluation) → P (t .x) → Last q → Last (missedOf q t)
   unfolding missedOf
@@ -186,7 +200,9 @@ module _ (fixed : Fixed) (P : List Float → Type 0) (S : Search → Type 0) (D 
   stepped-lasts : (q : Descent) (t : Evaluation) → P (t .x) → P (t .g) → Last q → Last (steppedOf q t)
   unfolding steppedOf
   stepped-lasts q t x g h =
-      record { least = omega arith; most = omega arith; rounds = h .rounds; asked = λ e. omega (arith, e); parts = record { point = x; gradient = g; direction = h .parts .direction; search = h .parts .search; diff = h .parts .diff } }
+      let l : Line = record { x = t .x; g = t .g; d = q .line .d; f = t .trial .value; slope = q .line .slope } in
+      let w = lined q step.atHead l (omega arith) (omega arith) (λ e. omega (arith, e)) x g (h .parts .direction) h in
+      keeps (withLine q step.atHead l) step.atHead (q .number) (q .detail) false (q .rounds) (omega arith) (omega arith) (h .rounds) (w .asked) (w .parts)
 
   record LastMoved (w : Moved) : Type 0 where
     lasts : Last (w .descent)
@@ -202,7 +218,8 @@ module _ (fixed : Fixed) (P : List Float → Type 0) (S : Search → Type 0) (D 
       let w = stepped-lasts q t x g h in
       both-moved (not (allFiniteOf (t .g) n)) (record { lasts = lower-lasts q byGradientFailed t (omega arith) (omega arith) x h })
       (both-moved (smallDecreaseOf (o .ftol) (q .line .f) (t .trial .value)) (record { lasts = past (steppedOf q t) byFunction (omega arith) (omega arith) w })
-      (both-moved (smallStepOf (o .xtol) (q .line .x) (t .x) n) (record { lasts = past (steppedOf q t) byStep (omega arith) (omega arith) w }) (record { lasts = headed-lasts (steppedOf q t) (storedOf fixed q m t) v w })))
+      (both-moved (smallStepOf (o .xtol) (q .line .x) (t .x) n) (record { lasts = past (steppedOf q t) byStep (omega arith) (omega arith) w })
+      (record { lasts = headed-lasts (steppedOf q t) (storedOf fixed q m t) v w })))
 
   settled-moved : (q : Descent) (m : Model) (v : ℕ) → Last q → LastMoved (settledOf fixed q m v)
   unfolding settledOf

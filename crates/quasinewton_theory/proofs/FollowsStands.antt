@@ -124,7 +124,8 @@ module _ (fixed : Fixed) where
       t : Evaluation
       t = q .search .best
 
-      go : (a : Bool) → eqb (q .phase) step.atHead ≡ a → (b : Bool) → eqb (q .phase) searching ≡ b → (c : Bool) → eqb (q .search .phase) linesearch.found ≡ c → (d : Bool) → eqb (q .search .phase) linesearch.failed ≡ d
+      go : (a : Bool) → eqb (q .phase) step.atHead ≡ a → (b : Bool) → eqb (q .phase) searching ≡ b
+          → (c : Bool) → eqb (q .search .phase) linesearch.found ≡ c → (d : Bool) → eqb (q .search .phase) linesearch.failed ≡ d
           → StandsMoved (cond a (moved (headedOf fixed q m v) m) (cond (not b) (moved q m) (cond c (succeededOf fixed q m t v) (cond d (moved (missedOf q t) m) (moved q m)))))
       go true e b f c g d h = record { stands = headed-stands q m v }
       go false e false f c g d h = record { stands = record { most = omega (arith, z .most, eqb-false (q .phase) step.atHead e); asking = λ i. absurd (eqb-false (q .phase) searching f i) } }
