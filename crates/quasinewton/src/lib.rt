@@ -30,8 +30,10 @@ const FIRST_DIFFERENCES: u64 = 3;
 const SEARCHING: u64 = 4;
 // At the head of a round: no record that is handed back stands here.
 const AT_HEAD: u64 = 13;
-// The last phase of a search with an open question, and those of one that has ended.
-const LAST_ASKING: u64 = 3;
+// The first and the last phase of a search with an open question, and those of one that has ended.
+const ASKS_VALUE: u64 = 1;
+
+const ASKS_DIFFERENCE: u64 = 3;
 
 const FOUND: u64 = 4;
 
@@ -105,7 +107,7 @@ pub fn asks(q: Descent) -> bool
 {
     let s = q.search;
     if q.phase == SEARCHING {
-        return s.phase <= LAST_ASKING;
+        return s.phase <= ASKS_DIFFERENCE;
     }
     q.phase <= FIRST_DIFFERENCES
 }
@@ -194,7 +196,7 @@ fn no_trial() -> Search
     };
     let diff = objective::begun(zero);
     Search {
-        phase: 1,
+        phase: ASKS_VALUE,
         zooming: false,
         trials: 0,
         previous: false,
