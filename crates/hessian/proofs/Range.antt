@@ -34,7 +34,10 @@ pub update-few : (m : Model) (s y : List Float) (n : ℕ) → InRange m → FewP
 unfolding updateOf limitedUpdateOf
 update-few m s y n r = go (m .limited) refl
   where
+    kept : Limited → Model
+    kept l = record { limited = m .limited; memory = m .memory; dense = m .dense; pairs = l }
+
     go : (b : Bool) → m .limited ≡ b
-        → FewPairs (cond b (record { limited = m .limited; memory = m .memory; dense = m .dense; pairs = limitedUpdateOf (m .pairs) (m .memory) s y n }) (record { limited = m .limited; memory = m .memory; dense = denseUpdateOf (m .dense) s y n; pairs = m .pairs }))
+        → FewPairs (cond b (kept (limitedUpdateOf (m .pairs) (m .memory) s y n)) (record { limited = m .limited; memory = m .memory; dense = denseUpdateOf (m .dense) s y n; pairs = m .pairs }))
     go true e = record { few = λ t. omega (arith, room-count (m .pairs) (m .memory) (r .within e) (r .most e)) }
     go false e = record { few = λ t. omega (arith, r .most t, r .within t) }

@@ -9,7 +9,6 @@ use lib.Ieee.{Float, neg, lt, le}
 use Rattle.float.specs.Binary64.{_⊖_, _⊗_, _⊘_, bits, plusZero}
 use Rattle.float.specs.Values.{absOf, finiteOf, maxOf, minOf}
 use Rattle.vector.specs.Points.{dotOf, differenceOf, negationOf, infNormOf, allFiniteOf}
-use Rattle.protocol.specs.declared.WolfeOptions.{WolfeOptions}
 use Rattle.protocol.specs.declared.Refusal.{Refusal}
 use Rattle.objective.specs.declared.Differences.{Differences}
 use Rattle.objective.specs.Step as objective

@@ -38,7 +38,7 @@ pub fn small_step(xtol: f64, before: [f64; 16], now: [f64; 16], n: usize) -> boo
     false
 }
 
-// The step at which a search starts: the first one of a fit moves no coordinate by more than 1.
+// The step at which a search starts: 1, or in a fit's first search 1 / |d| where that is less.
 pub fn initial_step(first: bool, d: [f64; 16], n: usize) -> f64
     requires { ⌜ n ≤ 16 ⌝ }
     ensures { λ r. ⌜ r ≡ initialStepOf first d n ⌝ }

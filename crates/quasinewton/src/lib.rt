@@ -30,10 +30,12 @@ const FIRST_DIFFERENCES: u64 = 3;
 const SEARCHING: u64 = 4;
 // At the head of a round: no record that is handed back stands here.
 const AT_HEAD: u64 = 13;
-// The phase of a search that asks for a gradient, the last with an open question, and those of one that has ended.
+// The phases of a search with an open question, and those of one that has ended.
+const ASKS_VALUE: u64 = 1;
+
 const ASKS_GRADIENT: u64 = 2;
 
-const LAST_ASKING: u64 = 3;
+const ASKS_DIFFERENCE: u64 = 3;
 
 const FOUND: u64 = 4;
 
@@ -107,7 +109,7 @@ pub fn asks(q: Descent) -> bool
 {
     let s = q.search;
     if q.phase == SEARCHING {
-        return s.phase <= LAST_ASKING;
+        return s.phase <= ASKS_DIFFERENCE;
     }
     q.phase <= FIRST_DIFFERENCES
 }
@@ -207,7 +209,7 @@ fn no_trial() -> Search
     };
     let diff = objective::begun(zero);
     Search {
-        phase: 1,
+        phase: ASKS_VALUE,
         zooming: false,
         trials: 0,
         previous: false,

@@ -1,18 +1,16 @@
 -- From the head of a round to the start of its search the record does what the text does: `head-does`. Assumes nothing.
-use Prim.Native.Nat.{ℕ, _≤_, _<_}
+use Prim.Native.Nat.{ℕ, _≤_}
 use mathlib.Core.Path.{_≡_, refl, sym, ap, subst, _∙_}
 use mathlib.Core.Bool.{Bool, true, false, not, _&&_, _||_, cond, false≢true}
 use mathlib.Core.List.{List}
-use native.Mathlib.Omega.{arith}
 use native.Mathlib.Numerals.{add-one}
 use borrow.Author.Tests.{eq-eqb, lt-leb}
 use lib.Dec.{leb, eqb}
-use lib.ListN.{length}
 use lib.Ieee.{Float, neg, lt, le}
-use Rattle.float.specs.Binary64.{_⊘_, bits, plusZero}
-use Rattle.float.specs.Values.{finiteOf, positiveOf, maxOf, minOf}
-use Rattle.vector.specs.Points.{dotOf, negationOf, infNormOf, allFiniteOf}
-use Rattle.vector.specs.Lists.{first, dot, infNorm, allFinite, negation}
+use Rattle.float.specs.Binary64.{plusZero}
+use Rattle.float.specs.Values.{finiteOf, positiveOf}
+use Rattle.vector.specs.Points.{negationOf, infNormOf}
+use Rattle.vector.specs.Lists.{first, dot, negation}
 use Rattle.vector.proofs.First.{point-laws, ties}
 use Rattle.protocol.specs.declared.WolfeOptions.{WolfeOptions}
 use Rattle.protocol.specs.declared.Refusal.{Refusal}
@@ -20,24 +18,23 @@ use Rattle.protocol.specs.declared.Termination.the-variants.{GradientTolerance,
 use Rattle.protocol.specs.Protocol.{readOf, refusal, noRefusal}
 use Rattle.protocol.specs.Claim.{Limit, limit, unlimited}
 use Rattle.protocol.specs.Ask.{Ask, finish, _>>=_}
-use Rattle.protocol.specs.Rounds.{Ending, atHead, stops, fails, Verdict, goOn, stop, Limits, reached}
+use Rattle.protocol.specs.Rounds.{Ending, atHead, stops, goOn, stop, Limits, reached}
 use Rattle.protocol.proofs.Texts.{bind-assoc}
 use Rattle.hessian.specs.declared.Model.{Model}
-use Rattle.hessian.specs.Algorithm.{one, direction}
+use Rattle.hessian.specs.Algorithm.{one}
 use Rattle.hessian.specs.Step.{directionOf}
 use Rattle.hessian.specs.Ties as hessian
 use Rattle.hessian.proofs.Ties.{hessian-ties}
 use Rattle.linesearch.specs.declared.Line.{Line}
 use Rattle.linesearch.specs.Start.{lineFromOf, optionsRefusalOf, countsRefusalOf, lineRefusalOf}
-use Rattle.linesearch.specs.Step as linesearch
 use Rattle.linesearch_theory.specs.Algorithm.{WolfeResult, Searched, refuses, gives, wolfeRefusal, lineFrom, search, strongWolfe}
 use Rattle.linesearch_theory.specs.Follows as searches
 use Rattle.linesearch_theory.proofs.Follows.{search-follows}
 use Rattle.quasinewton.specs.declared.Fixed.{Fixed}
 use Rattle.quasinewton.specs.declared.Descent.{Descent}
 use Rattle.quasinewton.specs.Step as step
-use Rattle.quasinewton.specs.Step.{byGradient, byIterations, byFevals, bySearch, inPhase, refusedBy, searchFixed, initialStepOf, notDescendingOf, soughtOf, searchedOf, steepestOf, directedOf, headedOf}
-use Rattle.quasinewton_theory.specs.Algorithm.{Position, concluded, initialStep, searched, notDescending, directed, iterated, round, tests}
+use Rattle.quasinewton.specs.Step.{byGradient, byIterations, byFevals, inPhase, refusedBy, searchFixed, initialStepOf, notDescendingOf, soughtOf, searchedOf, steepestOf, directedOf, headedOf}
+use Rattle.quasinewton_theory.specs.Algorithm.{Position, concluded, initialStep, searched, notDescending, directed, iterated, round}
 use Rattle.quasinewton_theory.specs.Follows.{positionOf, toDo, allowed, headed, settled, AllowsFevals, Allows}
 
 -- ---- the tests of `strong_wolfe`
@@ -82,7 +79,7 @@ counts-then n rest = rw (eq-eqb n n refl) (go (eqb n 0))
     go false = refl
 
 -- a refusal of the options leaves no search without a trial
-options-allow : (o : WolfeOptions) → eqb (optionsRefusalOf o .number) 0 ≡ true → eqb (o .evals) 0 ≡ false
+pub options-allow : (o : WolfeOptions) → eqb (optionsRefusalOf o .number) 0 ≡ true → eqb (o .evals) 0 ≡ false
 unfolding optionsRefusalOf
 options-allow o = go (lt plusZero (o .c1)) (lt (o .c1) one) (lt (o .c1) (o .c2)) (lt (o .c2) one) (eqb (o .evals) 0) (positiveOf (o .stepmax))
   where
@@ -132,8 +129,11 @@ module _ (fixed : Fixed) where
     abbrev l : Line
     l = lineFromOf (q .line .x) d (q .line .f) (q .line .g) n
 
-    sought-does : (search readOf (fixed .options .gradients) (fixed .options .wolfe) (lineFrom (p .x) (first n d) (p .f) (p .g)) a >>= λ r. finish (gives r)) >>= (λ r. finish (concluded p r))
-        ≡ toDo fixed (soughtOf fixed q l a) m
+    -- the text's search
+    abbrev along : Ask WolfeResult
+    along = search readOf (fixed .options .gradients) (fixed .options .wolfe) (lineFrom (p .x) (first n d) (p .f) (p .g)) a
+
+    sought-does : (along >>= λ r. finish (gives r)) >>= (λ r. finish (concluded p r)) ≡ toDo fixed (soughtOf fixed q l a) m
     unfolding soughtOf lineFromOf _>>=_
     sought-does =
         let from : Line → Ask WolfeResult = λ (k : Line). search readOf (fixed .options .gradients) (fixed .options .wolfe) k a in
@@ -143,8 +143,7 @@ module _ (fixed : Fixed) where
 
     -- by what the tests say
     abbrev started : Refusal → Ask Searched
-    started r =
-        cond (eqb (r .number) 0) (search readOf (fixed .options .gradients) (fixed .options .wolfe) (lineFrom (p .x) (first n d) (p .f) (p .g)) a >>= λ s. finish (gives s)) (finish (refuses r))
+    started r = cond (eqb (r .number) 0) (along >>= λ s. finish (gives s)) (finish (refuses r))
 
     abbrev startedOf : Refusal → Descent
     startedOf r = cond (eqb (r .number) 0) (soughtOf fixed q l a) (refusedBy q r)
@@ -154,7 +153,7 @@ module _ (fixed : Fixed) where
     started-does r = go (eqb (r .number) 0)
       where
         go : (b : Bool)
-            → cond b (search readOf (fixed .options .gradients) (fixed .options .wolfe) (lineFrom (p .x) (first n d) (p .f) (p .g)) a >>= λ s. finish (gives s)) (finish (refuses r)) >>= (λ s. finish (concluded p s))
+            → cond b (along >>= λ s. finish (gives s)) (finish (refuses r)) >>= (λ s. finish (concluded p s))
             ≡ toDo fixed (cond b (soughtOf fixed q l a) (refusedBy q r)) m
         go true = sought-does
         go false = refl
@@ -203,7 +202,7 @@ module _ (fixed : Fixed) where
     either-by {a} {d} {b} {c} h e {i} {j} {u} {w} x y = subst (λ (z : Bool). Does (cond (a || b) i j) (cond z u (cond c u w))) h (either a e x y)
 
     steepest-does : (q : Descent) → Does
-        (cond (notDescending (neg (dot (positionOf fixed q m .g) (positionOf fixed q m .g)))) (finish (stops LineSearchFailed (positionOf fixed q m))) (searched (positionOf fixed q m) (negation (positionOf fixed q m .g))))
+        (cond (notDescending (neg (dot (first n (q .line .g)) (first n (q .line .g))))) (finish (stops LineSearchFailed (positionOf fixed q m))) (searched (positionOf fixed q m) (negation (first n (q .line .g)))))
         (steepestOf fixed q)
     unfolding steepestOf
     steepest-does q =
@@ -222,13 +221,13 @@ module _ (fixed : Fixed) where
       abbrev here : Position
       here = positionOf fixed q m
 
-      abbrev along : List Float
-      along = directionOf m (q .line .g) n
+      abbrev way : List Float
+      way = directionOf m (q .line .g) n
 
-      round-does : round here ≡ toDo fixed (directedOf fixed (step.iterated q) along) m
-      round-does = rw (← hessian-ties n small .direction-of m (q .line .g) sized, ← add-one (q .rounds)) (directed-does (step.iterated q) along .does)
+      round-does : round here ≡ toDo fixed (directedOf fixed (step.iterated q) way) m
+      round-does = rw (← hessian-ties n small .direction-of m (q .line .g) sized, ← add-one (q .rounds)) (directed-does (step.iterated q) way .does)
 
-      by-limits : (b c : Bool) → allowed b c here ≡ toDo fixed (cond b (inPhase q byIterations) (cond c (inPhase q byFevals) (directedOf fixed (step.iterated q) along))) m
+      by-limits : (b c : Bool) → allowed b c here ≡ toDo fixed (cond b (inPhase q byIterations) (cond c (inPhase q byFevals) (directedOf fixed (step.iterated q) way))) m
       by-limits true c = refl
       by-limits false true = refl
       by-limits false false = round-does
@@ -239,7 +238,9 @@ module _ (fixed : Fixed) where
 
       by-tests : (b : Bool)
           → headed k v (cond b (stop GradientTolerance) goOn) here
-          ≡ toDo fixed (cond b (inPhase q byGradient) (cond (leb (fixed .iter) (q .rounds)) (inPhase q byIterations) (cond (leb (fixed .fevals) v) (inPhase q byFevals) (directedOf fixed (step.iterated q) along)))) m
+          ≡ toDo fixed
+          (cond b (inPhase q byGradient) (cond (leb (fixed .iter) (q .rounds)) (inPhase q byIterations) (cond (leb (fixed .fevals) v) (inPhase q byFevals) (directedOf fixed (step.iterated q) way))))
+          m
       by-tests true = refl
       by-tests false = rw (allows .iter, full-by (k .fevals) (allows .fevals)) (by-limits (leb (fixed .iter) (q .rounds)) (leb (fixed .fevals) v))
 

@@ -6,3 +6,9 @@ pub mod LawsSearch
 pub mod Laws
 pub mod Counts
 pub mod FollowsRound
+pub mod FollowsEnds
+pub mod FollowsAnswers
+pub mod FollowsSettles
+pub mod FollowsShape
+pub mod FollowsStands
+pub mod Follows

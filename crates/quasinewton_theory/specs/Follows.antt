@@ -163,7 +163,8 @@ pub record Stands (q : Descent) : Type 0 where
 module _ (fixed : Fixed) where
   pub record GradientFollows : Type 0 where
     -- the start has the opening to do that comes after its refusals
-    pub starts : (limited : Bool) (x : List Float) → fixed .n ≤ 16 → toDo fixed (startOf x) (newModelOf limited (fixed .options .memory) (fixed .n)) ≡ opened limited (fixed .options) (first (fixed .n) x)
+    pub starts : (limited : Bool) (x : List Float) → fixed .n ≤ 16
+        → toDo fixed (startOf x) (newModelOf limited (fixed .options .memory) (fixed .n)) ≡ opened limited (fixed .options) (first (fixed .n) x)
     -- whatever the words w tell
     pub follows : (q : Descent) (m : Model) → Shaped fixed q → asksOf q ≡ true
         → toDo fixed q m ≡ query (kindOf fixed q) (first (fixed .n) (probeOf fixed q)) (λ w. toDo fixed (heardOf fixed q w) m)
@@ -177,12 +178,14 @@ module _ (fixed : Fixed) where
     pub start-stands : (x : List Float) → Stands (startOf x)
     pub told-shaped : (q : Descent) (v : Float) → Shaped fixed q → Shaped fixed (toldOf fixed q v)
     pub told-gradient-shaped : (q : Descent) (g : List Float) → Sixteen g → Shaped fixed q → Shaped fixed (toldGradientOf fixed q g)
+    pub heard-shaped : (q : Descent) (w : List Float) → Shaped fixed q → Shaped fixed (heardOf fixed q w)
     pub settled-shaped : (q : Descent) (m : Model) (v : ℕ) → Shaped fixed q → hessian.Sized m → Shaped fixed (settledOf fixed q m v .descent) × hessian.Sized (settledOf fixed q m v .model)
     pub settled-stands : (q : Descent) (m : Model) (v : ℕ) → Shaped fixed q → Stands (settledOf fixed q m v .descent)
     -- every coordinate past n is +0.0
     pub start-zeros : (x : List Float) → search.ZeroFrom (fixed .n) x → ZeroPast (fixed .n) (startOf x)
     pub told-zeros : (q : Descent) (v : Float) → Shaped fixed q → ZeroPast (fixed .n) q → ZeroPast (fixed .n) (toldOf fixed q v)
-    pub told-gradient-zeros : (q : Descent) (g : List Float) → search.ZeroFrom (fixed .n) g → Shaped fixed q → ZeroPast (fixed .n) q → ZeroPast (fixed .n) (toldGradientOf fixed q g)
+    pub told-gradient-zeros : (q : Descent) (g : List Float) → Sixteen g → search.ZeroFrom (fixed .n) g → Shaped fixed q → ZeroPast (fixed .n) q → ZeroPast (fixed .n) (toldGradientOf fixed q g)
+    pub heard-zeros : (q : Descent) (w : List Float) → Shaped fixed q → ZeroPast (fixed .n) q → ZeroPast (fixed .n) (heardOf fixed q w)
     pub settled-zeros : (q : Descent) (m : Model) (v : ℕ) → Shaped fixed q → hessian.Sized m → ZeroPast (fixed .n) q → hessian.ZerosPast (fixed .n) m
         → ZeroPast (fixed .n) (settledOf fixed q m v .descent) × hessian.ZerosPast (fixed .n) (settledOf fixed q m v .model)
     pub probe-zeros : (q : Descent) → Shaped fixed q → ZeroPast (fixed .n) q → search.ZeroFrom (fixed .n) (probeOf fixed q)
