@@ -8,16 +8,18 @@ use lib.Dec.{T, eqb, ltb, leb}
 use borrow.Author.Tests.{eqb-false}
 use lib.ListN.{length, getD}
 use lib.Ieee.{Float, nan}
+use Rattle.float.specs.Values.{toleranceOf, positiveOf}
 use Rattle.vector.specs.Points.{fromSliceOf, allFiniteOf}
 use Rattle.protocol.specs.declared.SimplexOptions.{SimplexOptions}
 use Rattle.protocol.specs.declared.Allowances.{Allowances}
+use Rattle.protocol.specs.declared.Refusal.{Refusal}
 use Rattle.protocol.specs.Protocol.{Reply}
 use Rattle.neldermead.specs.Step.{notFinite}
 use Rattle.optim.specs.declared.Record.{Record}
-use Rattle.optim.specs.Record.{simplexMark, lastAsking, blankOf, validOf}
-use Rattle.optim.specs.declared.Refusal.{Refusal}
-use Rattle.optim.specs.Answer.{refusedOf, overOf, standingSimplexOf, standingDifferencesOf, standingOf, repeatsOf, steppedOf, takenOf, suitsOf, heardOf, answerOf}
-use Rattle.optim.specs.Start.{begunRecordOf, differencesOf, pastLimitsOf, toleranceOf, positiveOf, startRefusalOf, simplexRecordOf, simplexOf}
+use Rattle.linesearch.specs.Step.{asksGradient, asksDifference}
+use Rattle.optim.specs.Record.{simplexMark, searchMark, lastAsking, blankOf, validOf}
+use Rattle.optim.specs.Answer.{refusedOf, overOf, gradientDueOf, standingSimplexOf, standingSearchOf, standingDifferencesOf, standingOf, repeatsOf, steppedOf, gradedOf, takenOf, takenGradientOf, suitsOf, heardOf, answerOf}
+use Rattle.optim.specs.Start.{begunRecordOf, differencesOf, pastLimitsOf, startRefusalOf, simplexRecordOf, simplexOf}
 use Rattle.optim_theory.specs.Replies.{InScope, turnsAway, Answers, Starts}
 
 -- what holds of both arms holds of a test
@@ -36,32 +38,38 @@ Fine r a = InScope (a .0) × (T (turnsAway (a .0)) → a .1 ≡ r)
 
 -- what stands is in scope, and turns nothing away
 stands : (r q : Record) → Fine r (standingOf q)
-unfolding standingOf standingSimplexOf standingDifferencesOf
+unfolding standingOf standingSimplexOf standingSearchOf standingDifferencesOf
 stands r q =
     either (Fine r) (eqb (q .job) simplexMark) _ _
     (either (Fine r) (leb (q .simplex .phase) lastAsking) _ _ (tt, λ t. absurd t)
     (either (Fine r) (eqb (q .simplex .phase) notFinite) _ _ ((omega arith, omega arith), λ t. absurd t) (tt, λ t. absurd t)))
-    (either (Fine r) (eqb (q .diff .at) (q .n)) _ _ (tt, λ t. absurd t) (tt, λ t. absurd t))
+    (either (Fine r) (eqb (q .job) searchMark) _ _
+    (either (Fine r) (ltb asksDifference (q .descent .search .phase)) _ _ (tt, λ t. absurd t)
+    (either (Fine r) (eqb (q .descent .search .phase) asksGradient) _ _ (tt, λ t. absurd t) (tt, λ t. absurd t)))
+    (either (Fine r) (eqb (q .diff .at) (q .n)) _ _ (tt, λ t. absurd t) (tt, λ t. absurd t)))
 
 -- it comes with its record
 pub stands-keeps : (r : Record) → standingOf r .1 ≡ r
-unfolding standingOf standingSimplexOf standingDifferencesOf
+unfolding standingOf standingSimplexOf standingSearchOf standingDifferencesOf
 stands-keeps r =
     either (λ a. a .1 ≡ r) (eqb (r .job) simplexMark) _ _
     (either (λ a. a .1 ≡ r) (leb (r .simplex .phase) lastAsking) _ _ refl (either (λ a. a .1 ≡ r) (eqb (r .simplex .phase) notFinite) _ _ refl refl))
-    (either (λ a. a .1 ≡ r) (eqb (r .diff .at) (r .n)) _ _ refl refl)
+    (either (λ a. a .1 ≡ r) (eqb (r .job) searchMark) _ _
+    (either (λ a. a .1 ≡ r) (ltb asksDifference (r .descent .search .phase)) _ _ refl (either (λ a. a .1 ≡ r) (eqb (r .descent .search .phase) asksGradient) _ _ refl refl))
+    (either (λ a. a .1 ≡ r) (eqb (r .diff .at) (r .n)) _ _ refl refl))
 
 refuses : (r : Record) (k d : ℕ) → 1 ≤ k → k ≤ 20 → Fine r (refusedOf r k d)
 refuses r k d l h = ((l, h), λ t. refl)
 
 fine : (r : Record) (number kind : ℕ) (words : List Float) → Fine r (answerOf r number kind words)
-unfolding answerOf heardOf takenOf
+unfolding answerOf heardOf takenOf takenGradientOf
 fine r number kind words =
     either (Fine r) (validOf r) _ _
     (either (Fine r) (repeatsOf (r .accepted) number) _ _ (stands r r)
     (either (Fine r) (overOf r) _ _ (refuses r 15 0 (omega arith) (omega arith))
     (either (Fine r) (not (eqb number (r .accepted + 1))) _ _ (refuses r 16 0 (omega arith) (omega arith))
-    (either (Fine r) (not (suitsOf kind (length words))) _ _ (refuses r 17 0 (omega arith) (omega arith)) (stands r (steppedOf r (getD words 0 nan)))))))
+    (either (Fine r) (not (suitsOf r kind (length words))) _ _ (refuses r 17 0 (omega arith) (omega arith))
+    (either (Fine r) (gradientDueOf r) _ _ (stands r (gradedOf r (fromSliceOf words (r .n)))) (stands r (steppedOf r (getD words 0 nan))))))))
     (refuses r 1 0 (omega arith) (omega arith))
 
 repeated : (r : Record) (number kind : ℕ) (words : List Float) → validOf r ≡ true → repeatsOf (r .accepted) number ≡ true → answerOf r number kind words ≡ standingOf r
