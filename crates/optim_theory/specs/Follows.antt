@@ -1,10 +1,10 @@
 -- The job `differences` puts the questions of its Algorithm and ends with its gradient, whatever is told. Statements only.
-use Prim.Native.Nat.{ℕ, _+_, _≤_}
+use Prim.Native.Nat.{_+_, _≤_}
 use mathlib.Core.Path.{_≡_}
 use mathlib.Core.List.{List, [], _∷_}
 use lib.ListN.{length}
 use lib.Ieee.{Float}
-use Rattle.protocol.specs.Protocol.{Reply, ask, ended, differenced}
+use Rattle.protocol.specs.Protocol.{Reply, ended, differenced}
 use Rattle.protocol.specs.Ask.{Ask, finish, query}
 use Rattle.objective.specs.Algorithm.{differences}
 use Rattle.objective.specs.Follows.{Sized, toDo}
@@ -12,15 +12,15 @@ use Rattle.optim.specs.declared.Record.{Record}
 use Rattle.optim.specs.Record.{Other}
 use Rattle.optim.specs.Answer.{standingOf, steppedOf, takenOf}
 use Rattle.optim.specs.Start.{begunRecordOf, differencesOf}
+use Rattle.optim_theory.specs.Jobs.{shown}
 
 -- "Bare differences never do" read a value that is not finite as +infinity
 abbrev pub asTold : Float → Float
 asTold v = v
 
--- what a text shows after `last` accepted answers: its question, or the gradient that it ends with
-abbrev pub shown : ℕ → Ask (List Float) → Reply
-shown last (query kind x c) = ask (record { number = last + 1; kind = kind; point = x })
-shown last (finish g) = ended (differenced g)
+-- the text ends with its gradient
+abbrev pub differencesEnding : List Float → Reply
+differencesEnding g = ended (differenced g)
 
 -- what a record has still to do
 abbrev pub rest : Record → Ask (List Float)
@@ -32,12 +32,12 @@ after (query kind x c) words = c words
 after (finish g) words = finish g
 
 pub record JobFollows : Type 0 where
-  pub starts : (x : List Float) → length x ≤ 16 → differencesOf x .0 ≡ shown 0 (differences asTold x)
+  pub starts : (x : List Float) → length x ≤ 16 → differencesOf x .0 ≡ shown differencesEnding 0 (differences asTold x)
   pub begins : (x : List Float) → rest (begunRecordOf x) ≡ differences asTold x
-  pub stands : (r : Record) → Other r → Sized (r .n) (r .diff) → standingOf r .0 ≡ shown (r .accepted) (rest r)
+  pub stands : (r : Record) → Other r → Sized (r .n) (r .diff) → standingOf r .0 ≡ shown differencesEnding (r .accepted) (rest r)
   -- an accepted answer leads to the rest of the text, whatever it tells
   pub takes : (r : Record) (v : Float) → Other r → Sized (r .n) (r .diff) → (r .diff .at ≡ r .n → ⊥) → rest (steppedOf r v) ≡ after (rest r) (v ∷ [])
-  pub replies : (r : Record) (v : Float) → Other r → Sized (r .n) (r .diff) → (r .diff .at ≡ r .n → ⊥) → takenOf r v .0 ≡ shown (r .accepted + 1) (after (rest r) (v ∷ []))
+  pub replies : (r : Record) (v : Float) → Other r → Sized (r .n) (r .diff) → (r .diff .at ≡ r .n → ⊥) → takenOf r v .0 ≡ shown differencesEnding (r .accepted + 1) (after (rest r) (v ∷ []))
   -- it lasts
   pub begun-other : (x : List Float) → Other (begunRecordOf x)
   pub stepped-other : (r : Record) (v : Float) → Other r → Other (steppedOf r v)
