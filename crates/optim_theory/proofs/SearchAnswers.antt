@@ -15,10 +15,10 @@ use Rattle.protocol.specs.declared.Kind.{Kind}
 use Rattle.protocol.specs.declared.Kind.the-variants.{Value, Gradient}
 use Rattle.protocol.specs.Protocol.{letter, Answer, Reply, refused}
 use Rattle.protocol.specs.Claim.{wanted, ofKind}
-use Rattle.protocol.specs.Ask.{Ask, finish, query, _>>=_}
-use Rattle.linesearch.specs.Step.{asksGradient, asksDifference, found, probeOf}
-use Rattle.linesearch_theory.specs.Algorithm.{Searched, gives}
-use Rattle.linesearch_theory.specs.Follows.{kindOf, toDo, outcome, answered}
+use Rattle.protocol.specs.Ask.{Ask, _>>=_}
+use Rattle.linesearch.specs.Step.{asksGradient, asksDifference, probeOf}
+use Rattle.linesearch_theory.specs.Algorithm.{Searched}
+use Rattle.linesearch_theory.specs.Follows.{kindOf, toDo, answered}
 use Rattle.optim.specs.declared.Record.{Record}
 use Rattle.optim.specs.Record.{searchFixedOf}
 use Rattle.optim.specs.Answer.{overOf, gradientDueOf, standingOf, repeatsOf, takenOf, takenGradientOf, suitsOf, heardOf, answerOf}
@@ -115,7 +115,9 @@ module _ (r : Record) (S : Sound r) (W : (κ : Kind) → Within κ r) (a : Answe
               stands q (m .sound)
               ∙ ap (λ (t : Text Searched). shown searchEnding (t .values + t .gradients) (t .rest)) (m .text)
               ∙ ap (λ (k : ℕ). shown searchEnding k (then w)) (one-more (r .counts .fevals) (r .counts .gevals) kind);
-          relates = subst (λ (z : Record). Relates z (acceptedBy searchEnding (textOf r) kind (then w) .1)) (sym (stands-keeps q)) (record { sound = m .sound; within = λ κ. moves-within r S h w κ (W κ); is = m .text });
+          relates =
+              subst (λ (z : Record). Relates z (acceptedBy searchEnding (textOf r) kind (then w) .1)) (sym (stands-keeps q))
+              (record { sound = m .sound; within = λ κ. moves-within r S h w κ (W κ); is = m .text });
           stays = λ e. absurd (clash (r .counts .fevals) (r .counts .gevals) kind (ap (λ (t : Text Searched). t .values + t .gradients) e));
         }
       where
@@ -132,10 +134,10 @@ module _ (r : Record) (S : Sound r) (W : (κ : Kind) → Within κ r) (a : Answe
     due =
         rw (over-as r S false (le-ltb asksDifference (r .descent .search .phase) h), taken-as (a .words))
         (subst (λ (m : Ask Searched).
-            Same
-            (cond (not (eqb (a .number) (r .accepted + 1))) (refused 16 0, r)
-            (cond (not (suitsOf r (a .kind) (length (a .words)))) (refused 17 0, r) (standingOf (next r (a .words)))))
-            (freshBy searchEnding (textOf r) m a))
+        Same
+        (cond (not (eqb (a .number) (r .accepted + 1))) (refused 16 0, r)
+        (cond (not (suitsOf r (a .kind) (length (a .words)))) (refused 17 0, r) (standingOf (next r (a .words)))))
+        (freshBy searchEnding (textOf r) m a))
         (sym (asks r S h))
         (both (not (eqb (a .number) (r .accepted + 1))) _ _ _ _ _ (ap (λ (k : ℕ). not (eqb (a .number) (k + 1))) (S .numbers)) (unmoved (refused 16 0))
         (both (not (suitsOf r (a .kind) (length (a .words)))) _ _ _ _ _ (suits-as (a .kind) (length (a .words))) (unmoved (refused 17 0)) (taken (a .words)))))

@@ -22,7 +22,7 @@ use Rattle.protocol.specs.Ask.{Ask, finish, query, _>>=_}
 use Rattle.protocol.specs.Bounds.{Costs, ofBoth}
 use Rattle.linesearch.specs.declared.Search as search
 use Rattle.linesearch.specs.declared.Fixed.{Fixed}
-use Rattle.linesearch.specs.Step.{asksValue, asksGradient, asksDifference, found, failed, probeOf, toldOf, toldGradientOf}
+use Rattle.linesearch.specs.Step.{asksGradient, asksDifference, found, failed, probeOf, toldOf, toldGradientOf}
 use Rattle.linesearch_theory.specs.Algorithm.{WolfeResult, Searched, gives}
 use Rattle.linesearch_theory.specs.Counts.{perTrial}
 use Rattle.linesearch_theory.specs.Follows.{kindOf, ZeroFrom, LineHas, Shaped, ZeroPast, toDo, outcome, answered}
@@ -34,6 +34,7 @@ use Rattle.optim.specs.Answer.{overOf, gradientDueOf, searchResultOf, standingS
 use Rattle.optim_theory.specs.Follows.{asTold}
 use Rattle.optim_theory.specs.Jobs.{Text, shown}
 use Rattle.optim_theory.specs.Search.{searchEnding}
+use Rattle.optim_theory.proofs.EngineRelated.{passes}
 
 -- ---- the text that a record stands for
 
@@ -84,14 +85,6 @@ per-low Gradient false n h = omega arith
 
 bound-low : (κ : Kind) (gradients : Bool) (e n : ℕ) → e ≤ mostEvals → n ≤ 16 → e * perTrial κ gradients n ≤ 33000
 bound-low κ gradients e n h j = le-trans (mul-le-mul-right (perTrial κ gradients n) h) (mul-le-mul-left 1000 (per-low κ gradients n j))
-
--- a test that does not refuse
-passes : (b x : Bool) → b ≡ false → x ≡ true → cond b false x ≡ true
-passes true x e h = absurd (clash e)
-  where
-    clash : true ≡ false → ⊥
-    clash i = let z : _≡_ {A = ℕ} 0 1 = cc in omega arith
-passes false x e h = h
 
 module _ (r : Record) (S : Sound r) where
   abbrev s : search.Search
@@ -245,10 +238,21 @@ module _ (r : Record) (S : Sound r) (stands-open : r .descent .search .phase ≤
       by-value : eqb (s r S .phase) asksGradient ≡ false → Moved (steppedOf r (getD w 0 nan))
       by-value e =
           let v = getD w 0 nan in
-          record { sound = stepped-sound v; text = ap textOf (stepped v) ∙ ap (λ (g : ℕ). counting (r .counts .fevals + 1) g (rest-by false)) (sym (add-zero (r .counts .gevals))) ∙ ap after-by (sym e); accepted = rw (stepped v); bound = λ κ. rw (stepped v) }
+          record {
+            sound = stepped-sound v;
+            text = ap textOf (stepped v) ∙ ap (λ (g : ℕ). counting (r .counts .fevals + 1) g (rest-by false)) (sym (add-zero (r .counts .gevals))) ∙ ap after-by (sym e);
+            accepted = rw (stepped v);
+            bound = λ κ. rw (stepped v);
+          }
 
       by-gradient : eqb (s r S .phase) asksGradient ≡ true → Moved (gradedOf r (fromSliceOf w (r .n)))
-      by-gradient e = record { sound = graded-sound; text = ap (λ (v : ℕ). counting v (r .counts .gevals + 1) (rest-by true)) (sym (add-zero (r .counts .fevals))) ∙ ap after-by (sym e); accepted = refl; bound = λ κ. refl }
+      by-gradient e =
+          record {
+            sound = graded-sound;
+            text = ap (λ (v : ℕ). counting v (r .counts .gevals + 1) (rest-by true)) (sym (add-zero (r .counts .fevals))) ∙ ap after-by (sym e);
+            accepted = refl;
+            bound = λ κ. refl;
+          }
 
       go : (b : Bool) → eqb (s r S .phase) asksGradient ≡ b → Moved (next r w)
       go true e = rw (due-as r S, e) (by-gradient e)

@@ -24,12 +24,12 @@ use Rattle.protocol.specs.Protocol.{Reply, refused, refusal}
 use Rattle.protocol.specs.Claim.{NotRefused}
 use Rattle.protocol.specs.Ask.{Ask, finish, _>>=_}
 use Rattle.protocol.specs.Bounds.{Costs, ofBoth}
-use Rattle.protocol.proofs.Bounds.{costs-more, costs-bind}
+use Rattle.protocol.proofs.Bounds.{costs-bind}
 use Rattle.linesearch.specs.declared.Line.{Line}
 use Rattle.linesearch.specs.declared.Fixed.{Fixed}
 use Rattle.linesearch.specs.Trials.{one}
 use Rattle.linesearch.specs.Start.{lineFromOf, optionsRefusalOf, countsRefusalOf, lineRefusalOf}
-use Rattle.linesearch_theory.specs.Algorithm.{WolfeResult, search, wolfeRefusal, Searched, refuses, gives, lineFrom, strongWolfe}
+use Rattle.linesearch_theory.specs.Algorithm.{WolfeResult, search, wolfeRefusal, Searched, refuses, lineFrom, strongWolfe}
 use Rattle.linesearch_theory.specs.Counts.{perTrial}
 use Rattle.linesearch_theory.specs.Follows.{loweredLine, ZeroFrom, LineHas}
 use Rattle.linesearch_theory.proofs.Follows.{search-follows}
@@ -39,10 +39,10 @@ use Rattle.optim.specs.Record.{mostEvals, blankOf}
 use Rattle.optim.specs.Answer.{refusedOf, standingOf}
 use Rattle.optim.specs.Start.{searchPastLimitsOf, searchRefusalOf, searchOptionsOf, begunSearchOf, searchRecordOf, searchOf}
 use Rattle.optim_theory.specs.Follows.{asTold}
-use Rattle.optim_theory.specs.Jobs.{Text, shown, begunBy}
+use Rattle.optim_theory.specs.Jobs.{shown}
 use Rattle.optim_theory.specs.Search.{Start, searchText, searchEnding, searchPastLimits, searchCode}
 use Rattle.optim_theory.proofs.Replies.{stands-keeps}
-use Rattle.optim_theory.proofs.SearchRelated.{finished, restOf, textOf, Sound, Within, Relates, stands}
+use Rattle.optim_theory.proofs.SearchRelated.{finished, restOf, Sound, Within, Relates, stands}
 
 -- the reply that the text shows, and a record that is tied to it unless it is a refusal
 abbrev pub Begun : Reply × Record → Ask Searched → Type 0
@@ -112,6 +112,22 @@ module _ (s : Start) where
   abbrev body : Ask Searched
   body = search asTold (s .gradients) o (lineFrom (s .x) (s .d) (s .f) (s .g)) (s .step) >>= finished
 
+  body-costs : (κ : Kind) → Costs κ (o .evals * perTrial κ (s .gradients) n) body (λ q. Unit {0})
+  body-costs κ =
+      subst (λ (k : ℕ). Costs κ k body (λ q. Unit {0})) (add-zero (o .evals * perTrial κ (s .gradients) n))
+      (costs-bind κ (o .evals * perTrial κ (s .gradients) n) 0 (search asTold (s .gradients) o (lineFrom (s .x) (s .d) (s .f) (s .g)) (s .step)) finished
+      (λ r. length (r .at .x) ≤ n) (λ q. Unit {0})
+      (counts .search-costs κ asTold (s .gradients) o (lineFrom (s .x) (s .d) (s .f) (s .g)) (s .step) n (le-refl n)) (λ r h. tt))
+
+  -- a text that a test refuses asks nothing
+  pub text-costs : (κ : Kind) → Costs κ (o .evals * perTrial κ (s .gradients) n) (searchText s) (λ q. Unit {0})
+  unfolding strongWolfe
+  text-costs κ = go (eqb (wolfeRefusal o (s .x) (s .d) (s .f) (s .g) (s .step) .number) 0)
+    where
+      go : (b : Bool) → Costs κ (o .evals * perTrial κ (s .gradients) n) (cond b body (finish (refuses (wolfeRefusal o (s .x) (s .d) (s .f) (s .g) (s .step))))) (λ q. Unit {0})
+      go true = body-costs κ
+      go false = tt
+
   module _ (small : n ≤ 16) (evals : o .evals ≤ mostEvals) (positive : 0 < n) (along : length (s .d) ≡ n) (sloped : length (s .g) ≡ n) where
     made-sound : Sound made
     unfolding searchRecordOf searchOptionsOf begunSearchOf lineFromOf fromSliceOf
@@ -140,12 +156,6 @@ module _ (s : Start) where
     made-rest =
         ap (λ (m : Ask WolfeResult). m >>= finished)
         (sym (search-follows asTold fixed line .begins (s .step)) ∙ ap (λ (l : Line). search asTold (s .gradients) o l (s .step)) lowered)
-
-    body-costs : (κ : Kind) → Costs κ (o .evals * perTrial κ (s .gradients) n) body (λ q. Unit {0})
-    body-costs κ =
-        subst (λ (k : ℕ). Costs κ k body (λ q. Unit {0})) (add-zero (o .evals * perTrial κ (s .gradients) n))
-        (costs-bind κ (o .evals * perTrial κ (s .gradients) n) 0 (search asTold (s .gradients) o (lineFrom (s .x) (s .d) (s .f) (s .g)) (s .step)) finished (λ r. length (r .at .x) ≤ n) (λ q. Unit {0})
-        (counts .search-costs κ asTold (s .gradients) o (lineFrom (s .x) (s .d) (s .f) (s .g)) (s .step) n (le-refl n)) (λ r h. tt))
 
     made-within : (κ : Kind) → Within κ made
     unfolding searchRecordOf searchOptionsOf begunSearchOf
@@ -199,7 +209,11 @@ module _ (s : Start) where
       go true e = refl
       go false e = rw e
 
-  tests : searchPastLimits s ≡ false → Begun (decide (optionsRefusalOf o) (decide (countsRefusalOf n (length (s .d)) (length (s .g))) (decide (lineRefusalOf n line (s .step)) (standingOf made)))) (searchText s)
+  -- met one after another
+  abbrev decided : Reply × Record
+  decided = decide (optionsRefusalOf o) (decide (countsRefusalOf n (length (s .d)) (length (s .g))) (decide (lineRefusalOf n line (s .step)) (standingOf made)))
+
+  tests : searchPastLimits s ≡ false → Begun decided (searchText s)
   unfolding optionsRefusalOf countsRefusalOf lineRefusalOf lineFromOf strongWolfe wolfeRefusal
   tests past =
       pair (lt plusZero (o .c1)) (lt (o .c1) one) 5 1 _ _ _ body refl

@@ -37,7 +37,8 @@ pub record JobFollows : Type 0 where
   pub stands : (r : Record) → Other r → Sized (r .n) (r .diff) → standingOf r .0 ≡ shown differencesEnding (r .accepted) (rest r)
   -- an accepted answer leads to the rest of the text, whatever it tells
   pub takes : (r : Record) (v : Float) → Other r → Sized (r .n) (r .diff) → (r .diff .at ≡ r .n → ⊥) → rest (steppedOf r v) ≡ after (rest r) (v ∷ [])
-  pub replies : (r : Record) (v : Float) → Other r → Sized (r .n) (r .diff) → (r .diff .at ≡ r .n → ⊥) → takenOf r v .0 ≡ shown differencesEnding (r .accepted + 1) (after (rest r) (v ∷ []))
+  pub replies : (r : Record) (v : Float) → Other r → Sized (r .n) (r .diff) → (r .diff .at ≡ r .n → ⊥)
+      → takenOf r v .0 ≡ shown differencesEnding (r .accepted + 1) (after (rest r) (v ∷ []))
   -- it lasts
   pub begun-other : (x : List Float) → Other (begunRecordOf x)
   pub stepped-other : (r : Record) (v : Float) → Other r → Other (steppedOf r v)
