@@ -6,10 +6,11 @@ use mathlib.Core.Path.{_≡_, refl, sym, _∙_, ap, subst}
 use mathlib.Core.Bool.{Bool, true, false, not, _&&_, cond}
 use mathlib.Core.Logic.{inl, inr}
 use mathlib.Core.List.{List}
-use borrow.Author.Tests.{lt-ltb, le-ltb, eq-eqb}
+use borrow.Author.Tests.{lt-ltb, le-ltb, eq-eqb, ne-eqb}
 use lib.Dec.{eqb, ltb}
 use lib.ListN.{length, getD}
 use lib.Ieee.{Float, nan}
+use Rattle.vector.specs.Points.{fromSliceOf}
 use Rattle.protocol.specs.Protocol.{Answer, Reply, refused, readOf}
 use Rattle.protocol.specs.Rounds.{Limits}
 use Rattle.protocol.specs.Places.{still, Held, at, closed, Placed, placed, putTurn, standingAt, acceptAt, freshAt, answerAt, Turns}
@@ -19,8 +20,8 @@ use Rattle.neldermead.specs.Step.{toldOf}
 use Rattle.neldermead_theory.specs.Follows.{Related, RelatedMove, settledMove, Allows}
 use Rattle.neldermead_theory.proofs.Follows.{simplex-follows, settles-as-fits}
 use Rattle.optim.specs.declared.Record.{Record}
-use Rattle.optim.specs.Record.{simplexMark, most, lastAsking, fixedOf, validOf}
-use Rattle.optim.specs.Answer.{overOf, standingOf, repeatsOf, acceptedOf, steppedOf, takenOf, suitsOf, heardOf, answerOf}
+use Rattle.optim.specs.Record.{simplexMark, searchMark, most, lastAsking, fixedOf, validOf}
+use Rattle.optim.specs.Answer.{overOf, gradientDueOf, standingOf, repeatsOf, valuedOf, steppedOf, takenOf, takenGradientOf, suitsOf, heardOf, answerOf}
 use Rattle.optim_theory.specs.Engine.{answerCode}
 use Rattle.optim_theory.proofs.Replies.{stands-keeps}
 use Rattle.optim_theory.proofs.EngineBounded.{told-within, step-keeps}
@@ -37,10 +38,15 @@ repeats-as k n = go (eqb k 0)
     go true = refl
     go false = refl
 
+-- a simplex fit asks for no gradient
+no-gradient-due : (r : Record) → r .job ≡ simplexMark → gradientDueOf r ≡ false
+unfolding gradientDueOf
+no-gradient-due r e = rw (ne-eqb (r .job) searchMark (λ f. omega arith))
+
 -- the letter and the length
-suits-as : (k n : ℕ) → not (suitsOf k n) ≡ not (eqb k 86 && eqb n 1)
+suits-as : (r : Record) (k n : ℕ) → r .job ≡ simplexMark → not (suitsOf r k n) ≡ not (eqb k 86 && eqb n 1)
 unfolding suitsOf
-suits-as k n = go (eqb k 86)
+suits-as r k n e = rw (no-gradient-due r e) (go (eqb k 86))
   where
     go : (b : Bool) → not (cond (not b) false (eqb n 1)) ≡ not (b && eqb n 1)
     go true = refl
@@ -50,7 +56,7 @@ suits-as k n = go (eqb k 86)
 
 -- the record after the value v
 abbrev next : Record → Float → Record
-next r v = acceptedOf r (r .diff) (toldOf (fixedOf r) (r .simplex) (readOf v) (r .counts .fevals + 1))
+next r v = valuedOf r (r .diff) (toldOf (fixedOf r) (r .simplex) (readOf v) (r .counts .fevals + 1)) (r .descent .search)
 
 stepped : (r : Record) (v : Float) → r .job ≡ simplexMark → steppedOf r v ≡ next r v
 unfolding steppedOf
@@ -166,14 +172,15 @@ module _ (r : Record) (l : Limits) (A : Allows (fixedOf r) l) (x : List Float) (
       → Same h
       (cond (overOf r) (refused 15 0, r)
       (cond (not (eqb (a .number) (r .accepted + 1))) (refused 16 0, r)
-      (cond (not (suitsOf (a .kind) (length (a .words)))) (refused 17 0, r) (takenOf r (getD (a .words) 0 nan)))))
+      (cond (not (suitsOf r (a .kind) (length (a .words)))) (refused 17 0, r)
+      (cond (gradientDueOf r) (takenGradientOf r (fromSliceOf (a .words) (r .n))) (takenOf r (getD (a .words) 0 nan))))))
       (freshAt allFits allSteps (followed h) h a)
   fresh (closed y) held a = rw (over-as true (lt-ltb lastAsking (r .simplex .phase) (held .past))) (unmoved (closed y) held (refused 15 0))
   fresh (at (inr s)) held a = absurd held
   fresh (at (inl ph)) held a =
-      rw (over-as false (le-ltb lastAsking (r .simplex .phase) (omega (arith, held .0 .mark, mark-asks ph))))
+      rw (over-as false (le-ltb lastAsking (r .simplex .phase) (omega (arith, held .0 .mark, mark-asks ph))), no-gradient-due r (S .job))
       (both (at (inl ph)) (not (eqb (a .number) (r .accepted + 1))) (not (eqb (a .number) (suc (r .accepted)))) _ _ _ _ (rw (add-one (r .accepted))) (unmoved (at (inl ph)) held (refused 16 0))
-      (both (at (inl ph)) (not (suitsOf (a .kind) (length (a .words)))) _ _ _ _ _ (suits-as (a .kind) (length (a .words))) (unmoved (at (inl ph)) held (refused 17 0))
+      (both (at (inl ph)) (not (suitsOf r (a .kind) (length (a .words)))) _ _ _ _ _ (suits-as r (a .kind) (length (a .words)) (S .job)) (unmoved (at (inl ph)) held (refused 17 0))
       (taken ph held a)))
 
   answered : (h : Held Place) → HeldBy r l A x h → (a : Answer) → Same h (answerCode r a) (answerAt allFits allSteps (followed h) a)

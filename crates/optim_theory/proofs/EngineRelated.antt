@@ -120,7 +120,7 @@ bound-low M o x m r n = low (suc (o .restarts) * suc (length x)) (le-trans (mul-
     low k h = omega arith
 
 -- a test that does not refuse
-passes : (b x : Bool) → b ≡ false → x ≡ true → cond b false x ≡ true
+pub passes : (b x : Bool) → b ≡ false → x ≡ true → cond b false x ≡ true
 passes true x e h = absurd (clash e)
   where
     clash : true ≡ false → ⊥

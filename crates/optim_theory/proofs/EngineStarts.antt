@@ -12,14 +12,15 @@ use lib.Dec.{eqb, ltb}
 use lib.ListN.{length}
 use lib.Ieee.{Float, le, lt}
 use Rattle.float.specs.Binary64.{plusZero}
-use Rattle.float.specs.Values.{finiteOf}
+use Rattle.float.specs.Values.{finiteOf, toleranceOf, positiveOf}
 use Rattle.vector.specs.Loops.{at}
 use Rattle.vector.specs.Lists.{first, allFinite}
 use Rattle.vector.specs.Points.{fromSliceOf, allFiniteOf}
 use Rattle.vector.proofs.First.{point-laws, ties}
 use Rattle.vector.proofs.Stores.{first-whole}
 use Rattle.protocol.specs.declared.SimplexOptions.{SimplexOptions}
-use Rattle.protocol.specs.Protocol.{Reply, Job, simplex, bfgs, lbfgs, Fit}
+use Rattle.protocol.specs.declared.Refusal.{Refusal}
+use Rattle.protocol.specs.Protocol.{refusal, Reply, Job, simplex, bfgs, lbfgs, Fit}
 use Rattle.protocol.specs.Claim.{NotRefused, limit}
 use Rattle.protocol.specs.PastLimits.{excess, pastLimits}
 use Rattle.protocol.specs.Rounds.{fails, Limits, limitsOf}
@@ -29,10 +30,9 @@ use Rattle.neldermead_theory.specs.Phases.{Move, buildAt, openingMove}
 use Rattle.neldermead_theory.specs.Follows.{RelatedMove, Allows}
 use Rattle.neldermead_theory.proofs.Follows.{simplex-follows}
 use Rattle.optim.specs.declared.Record.{Record}
-use Rattle.optim.specs.declared.Refusal.{Refusal}
 use Rattle.optim.specs.Record.{mostAllowed, blankOf, fixedOf}
 use Rattle.optim.specs.Answer.{refusedOf, standingOf}
-use Rattle.optim.specs.Start.{excessOf, pastLimitsOf, toleranceOf, positiveOf, refusal, startRefusalOf, limitOf, limitsOf as limitsFor, simplexRecordOf, simplexOf}
+use Rattle.optim.specs.Start.{excessOf, pastLimitsOf, startRefusalOf, limitOf, limitsOf as limitsFor, simplexRecordOf, simplexOf}
 use Rattle.optim_theory.specs.Engine.{allowance, allowances, startCode}
 use Rattle.optim_theory.proofs.Replies.{stands-keeps}
 use Rattle.optim_theory.proofs.EngineBounded.{start-within, opening-keeps}

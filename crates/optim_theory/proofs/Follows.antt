@@ -18,9 +18,11 @@ use Rattle.objective.specs.Step.{toldOf}
 use Rattle.objective.specs.Follows.{Sized}
 use Rattle.objective.proofs.Follows.{follows}
 use Rattle.optim.specs.declared.Record.{Record}
-use Rattle.optim.specs.Answer.{standingDifferencesOf, standingOf, acceptedOf, steppedOf, takenOf}
+use Rattle.optim.specs.Record.{Other}
+use Rattle.optim.specs.Answer.{standingDifferencesOf, standingOf, valuedOf, steppedOf, takenOf}
 use Rattle.optim.specs.Start.{begunRecordOf, differencesOf}
-use Rattle.optim_theory.specs.Follows.{asTold, shown, rest, after, NoFit, JobFollows}
+use Rattle.optim_theory.specs.Jobs.{shown}
+use Rattle.optim_theory.specs.Follows.{asTold, differencesEnding, rest, after, JobFollows}
 
 -- a record that is not at its end has a coordinate to come
 short : (r : Record) → Sized (r .n) (r .diff) → (r .diff .at ≡ r .n → ⊥) → r .diff .at < r .n
@@ -30,20 +32,20 @@ short r h d = less (r .diff .at) (r .n) (h .within) d
     less a n l e = omega arith
 
 -- what stands is what stands in differences
-stands : (r : Record) → NoFit r → Sized (r .n) (r .diff) → standingOf r .0 ≡ shown (r .accepted) (rest r)
+stands : (r : Record) → Other r → Sized (r .n) (r .diff) → standingOf r .0 ≡ shown differencesEnding (r .accepted) (rest r)
 unfolding standingOf standingDifferencesOf
-stands r bare h = rw (ne-eqb _ _ bare) (at-end (eqb (r .diff .at) (r .n)) refl)
+stands r bare h = rw (ne-eqb _ _ (bare .0), ne-eqb _ _ (bare .1)) (at-end (eqb (r .diff .at) (r .n)) refl)
   where
-    at-end : (b : Bool) → eqb (r .diff .at) (r .n) ≡ b → standingDifferencesOf r .0 ≡ shown (r .accepted) (rest r)
-    at-end true e = rw e (sym (ap (shown (r .accepted)) (follows asTold .ends (r .n) (r .diff) (eqb-true _ _ e))))
-    at-end false e = rw e (sym (ap (shown (r .accepted)) (follows asTold .follows (r .n) (r .diff) h (short r h (eqb-false _ _ e)))))
+    at-end : (b : Bool) → eqb (r .diff .at) (r .n) ≡ b → standingDifferencesOf r .0 ≡ shown differencesEnding (r .accepted) (rest r)
+    at-end true e = rw e (sym (ap (shown differencesEnding (r .accepted)) (follows asTold .ends (r .n) (r .diff) (eqb-true _ _ e))))
+    at-end false e = rw e (sym (ap (shown differencesEnding (r .accepted)) (follows asTold .follows (r .n) (r .diff) h (short r h (eqb-false _ _ e)))))
 
 -- the step is that of differences
-steps : (r : Record) (v : Float) → NoFit r → steppedOf r v ≡ acceptedOf r (toldOf (r .diff) v) (r .simplex)
+steps : (r : Record) (v : Float) → Other r → steppedOf r v ≡ valuedOf r (toldOf (r .diff) v) (r .simplex) (r .descent .search)
 unfolding steppedOf
-steps r v bare = rw (ne-eqb _ _ bare)
+steps r v bare = rw (ne-eqb _ _ (bare .0), ne-eqb _ _ (bare .1))
 
-takes : (r : Record) (v : Float) → NoFit r → Sized (r .n) (r .diff) → (r .diff .at ≡ r .n → ⊥) → rest (steppedOf r v) ≡ after (rest r) (v ∷ [])
+takes : (r : Record) (v : Float) → Other r → Sized (r .n) (r .diff) → (r .diff .at ≡ r .n → ⊥) → rest (steppedOf r v) ≡ after (rest r) (v ∷ [])
 takes r v bare h d = ap rest (steps r v bare) ∙ sym (ap (λ (m : Ask (List Float)). after m (v ∷ [])) (follows asTold .follows (r .n) (r .diff) h (short r h d)))
 
 begins : (x : List Float) → rest (begunRecordOf x) ≡ differences asTold x
@@ -54,22 +56,25 @@ begun-sized : (x : List Float) → length x ≤ 16 → Sized (begunRecordOf x .n
 unfolding begunRecordOf fromSliceOf
 begun-sized x h = follows asTold .begun-sized (length x) (fromSliceOf x (length x)) h (point-laws .width (at x) (length x) h)
 
-stepped-sized : (r : Record) (v : Float) → NoFit r → Sized (r .n) (r .diff) → (r .diff .at ≡ r .n → ⊥) → Sized (steppedOf r v .n) (steppedOf r v .diff)
+stepped-sized : (r : Record) (v : Float) → Other r → Sized (r .n) (r .diff) → (r .diff .at ≡ r .n → ⊥) → Sized (steppedOf r v .n) (steppedOf r v .diff)
 stepped-sized r v bare h d = subst (λ (q : Record). Sized (q .n) (q .diff)) (sym (steps r v bare)) (follows asTold .told-sized (r .n) (r .diff) v h (short r h d))
 
-begun-no-fit : (x : List Float) → NoFit (begunRecordOf x)
+begun-other : (x : List Float) → Other (begunRecordOf x)
 unfolding begunRecordOf
-begun-no-fit x e = five e
+begun-other x = (λ e. not-one e, λ e. not-four e)
   where
-    five : _≡_ {A = ℕ} 5 1 → ⊥
-    five q = omega arith
+    not-one : _≡_ {A = ℕ} 5 1 → ⊥
+    not-one q = omega arith
 
-stepped-no-fit : (r : Record) (v : Float) → NoFit r → NoFit (steppedOf r v)
-stepped-no-fit r v bare = subst NoFit (sym (steps r v bare)) bare
+    not-four : _≡_ {A = ℕ} 5 4 → ⊥
+    not-four q = omega arith
 
-starts : (x : List Float) → length x ≤ 16 → differencesOf x .0 ≡ shown 0 (differences asTold x)
+stepped-other : (r : Record) (v : Float) → Other r → Other (steppedOf r v)
+stepped-other r v bare = subst Other (sym (steps r v bare)) bare
+
+starts : (x : List Float) → length x ≤ 16 → differencesOf x .0 ≡ shown differencesEnding 0 (differences asTold x)
 unfolding differencesOf begunRecordOf
-starts x h = few (ltb 16 (length x)) refl ∙ stands (begunRecordOf x) (begun-no-fit x) (begun-sized x h) ∙ ap (shown 0) (begins x)
+starts x h = few (ltb 16 (length x)) refl ∙ stands (begunRecordOf x) (begun-other x) (begun-sized x h) ∙ ap (shown differencesEnding 0) (begins x)
   where
     few : (b : Bool) → ltb 16 (length x) ≡ b → differencesOf x .0 ≡ standingOf (begunRecordOf x) .0
     few true e = absurd (over (ltb-true 16 (length x) e))
@@ -86,9 +91,9 @@ job-follows = record {
   stands = stands;
   takes = takes;
   replies = λ r v bare h d.
-      stands (steppedOf r v) (stepped-no-fit r v bare) (stepped-sized r v bare h d) ∙ ap₂ shown (ap (λ (q : Record). q .accepted) (steps r v bare)) (takes r v bare h d);
-  begun-no-fit = begun-no-fit;
-  stepped-no-fit = stepped-no-fit;
+      stands (steppedOf r v) (stepped-other r v bare) (stepped-sized r v bare h d) ∙ ap₂ (shown differencesEnding) (ap (λ (q : Record). q .accepted) (steps r v bare)) (takes r v bare h d);
+  begun-other = begun-other;
+  stepped-other = stepped-other;
   begun-sized = begun-sized;
   stepped-sized = stepped-sized;
 }

@@ -5,3 +5,8 @@ pub mod EngineRelated
 pub mod EngineAnswers
 pub mod EngineStarts
 pub mod Engine
+pub mod SearchRelated
+pub mod SearchAnswers
+pub mod SearchStarts
+pub mod Jobs
+pub mod Search

@@ -1,26 +1,26 @@
 -- The job `differences` puts the questions of its Algorithm and ends with its gradient, whatever is told. Statements only.
-use Prim.Native.Nat.{ℕ, _+_, _≤_}
+use Prim.Native.Nat.{_+_, _≤_}
 use mathlib.Core.Path.{_≡_}
 use mathlib.Core.List.{List, [], _∷_}
 use lib.ListN.{length}
 use lib.Ieee.{Float}
-use Rattle.protocol.specs.Protocol.{Reply, ask, ended, differenced}
+use Rattle.protocol.specs.Protocol.{Reply, ended, differenced}
 use Rattle.protocol.specs.Ask.{Ask, finish, query}
 use Rattle.objective.specs.Algorithm.{differences}
 use Rattle.objective.specs.Follows.{Sized, toDo}
 use Rattle.optim.specs.declared.Record.{Record}
-use Rattle.optim.specs.Record.{simplexMark}
+use Rattle.optim.specs.Record.{Other}
 use Rattle.optim.specs.Answer.{standingOf, steppedOf, takenOf}
 use Rattle.optim.specs.Start.{begunRecordOf, differencesOf}
+use Rattle.optim_theory.specs.Jobs.{shown}
 
 -- "Bare differences never do" read a value that is not finite as +infinity
 abbrev pub asTold : Float → Float
 asTold v = v
 
--- what a text shows after `last` accepted answers: its question, or the gradient that it ends with
-abbrev pub shown : ℕ → Ask (List Float) → Reply
-shown last (query kind x c) = ask (record { number = last + 1; kind = kind; point = x })
-shown last (finish g) = ended (differenced g)
+-- the text ends with its gradient
+abbrev pub differencesEnding : List Float → Reply
+differencesEnding g = ended (differenced g)
 
 -- what a record has still to do
 abbrev pub rest : Record → Ask (List Float)
@@ -31,19 +31,16 @@ abbrev pub after : Ask (List Float) → List Float → Ask (List Float)
 after (query kind x c) words = c words
 after (finish g) words = finish g
 
--- the record's job is no fit
-abbrev pub NoFit : Record → Type 0
-NoFit r = r .job ≡ simplexMark → ⊥
-
 pub record JobFollows : Type 0 where
-  pub starts : (x : List Float) → length x ≤ 16 → differencesOf x .0 ≡ shown 0 (differences asTold x)
+  pub starts : (x : List Float) → length x ≤ 16 → differencesOf x .0 ≡ shown differencesEnding 0 (differences asTold x)
   pub begins : (x : List Float) → rest (begunRecordOf x) ≡ differences asTold x
-  pub stands : (r : Record) → NoFit r → Sized (r .n) (r .diff) → standingOf r .0 ≡ shown (r .accepted) (rest r)
+  pub stands : (r : Record) → Other r → Sized (r .n) (r .diff) → standingOf r .0 ≡ shown differencesEnding (r .accepted) (rest r)
   -- an accepted answer leads to the rest of the text, whatever it tells
-  pub takes : (r : Record) (v : Float) → NoFit r → Sized (r .n) (r .diff) → (r .diff .at ≡ r .n → ⊥) → rest (steppedOf r v) ≡ after (rest r) (v ∷ [])
-  pub replies : (r : Record) (v : Float) → NoFit r → Sized (r .n) (r .diff) → (r .diff .at ≡ r .n → ⊥) → takenOf r v .0 ≡ shown (r .accepted + 1) (after (rest r) (v ∷ []))
+  pub takes : (r : Record) (v : Float) → Other r → Sized (r .n) (r .diff) → (r .diff .at ≡ r .n → ⊥) → rest (steppedOf r v) ≡ after (rest r) (v ∷ [])
+  pub replies : (r : Record) (v : Float) → Other r → Sized (r .n) (r .diff) → (r .diff .at ≡ r .n → ⊥)
+      → takenOf r v .0 ≡ shown differencesEnding (r .accepted + 1) (after (rest r) (v ∷ []))
   -- it lasts
-  pub begun-no-fit : (x : List Float) → NoFit (begunRecordOf x)
-  pub stepped-no-fit : (r : Record) (v : Float) → NoFit r → NoFit (steppedOf r v)
+  pub begun-other : (x : List Float) → Other (begunRecordOf x)
+  pub stepped-other : (r : Record) (v : Float) → Other r → Other (steppedOf r v)
   pub begun-sized : (x : List Float) → length x ≤ 16 → Sized (begunRecordOf x .n) (begunRecordOf x .diff)
-  pub stepped-sized : (r : Record) (v : Float) → NoFit r → Sized (r .n) (r .diff) → (r .diff .at ≡ r .n → ⊥) → Sized (steppedOf r v .n) (steppedOf r v .diff)
+  pub stepped-sized : (r : Record) (v : Float) → Other r → Sized (r .n) (r .diff) → (r .diff .at ≡ r .n → ⊥) → Sized (steppedOf r v .n) (steppedOf r v .diff)

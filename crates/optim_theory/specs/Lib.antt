@@ -1,3 +1,5 @@
 pub mod Replies
+pub mod Jobs
 pub mod Follows
 pub mod Engine
+pub mod Search
