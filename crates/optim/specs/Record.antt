@@ -12,7 +12,7 @@ use Rattle.objective.specs.Step.{begunOf}
 use Rattle.linesearch.specs.declared.Fixed as linesearchFixed
 use Rattle.linesearch.specs.Step.{failed}
 use Rattle.quasinewton.specs.Step.{searching, idleOf as idleDescent}
-use Rattle.neldermead.specs.declared.Vertex.{Vertex}
+use Rattle.vertices.specs.declared.Vertex.{Vertex}
 use Rattle.neldermead.specs.declared.Fixed.{Fixed}
 use Rattle.neldermead.specs.declared.Simplex.{Simplex}
 use Rattle.optim.specs.declared.Record.{Record}
