@@ -4,7 +4,7 @@ use lib.Ieee.{toBits, ofBits, ofFields, ofInt, span, climb, size, odd, units, ro
 use Rattle.float.specs.Values.{absOf, finiteOf, signumOf, maxOf, minOf}
 use Rattle.float.specs.Sqrt.{isqrt, rootOf, sqrtOf}
 use Rattle.linesearch.specs.Cubic.{interpolateOf}
-use Rattle.neldermead.specs.Method.{beta, gamma, delta, displaced}
+use Rattle.vertices.specs.Method.{beta, gamma, delta, displaced}
 use Rattle.bench.specs.Table.{Computes}
 
 pub computes : Computes

@@ -10,7 +10,7 @@ use Rattle.float.specs.Sqrt.{sqrtOf}
 use Rattle.protocol.specs.declared.SimplexOptions.{SimplexOptions}
 use Rattle.linesearch.specs.declared.Trial.{Trial}
 use Rattle.linesearch.specs.Cubic.{interpolateOf}
-use Rattle.neldermead.specs.Method.{alpha, beta, gamma, delta, displaced}
+use Rattle.vertices.specs.Method.{alpha, beta, gamma, delta, displaced}
 
 -- what a definition computes, and the bits that it is to have
 pub record Row : Type 0 where

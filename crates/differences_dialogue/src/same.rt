@@ -1,11 +1,11 @@
 // Whether two records have the same bits, one pattern counting for every NaN.
 use neldermead::Simplex;
-use neldermead::Vertex;
 use objective::Differences;
 use optim::Counts;
 use optim::Limits;
 use optim::Record;
 use protocol::SimplexOptions;
+use vertices::Vertex;
 
 fn number(a: f64, b: f64) -> bool {
     rows::bits_of(a) == rows::bits_of(b)

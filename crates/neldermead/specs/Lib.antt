@@ -1,4 +1,1 @@
-pub mod Order
-pub mod Method
-pub mod Vertices
 pub mod Step

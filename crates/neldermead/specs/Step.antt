@@ -9,11 +9,11 @@ use Rattle.float.specs.Binary64.{_⊗_, plusZero}
 use Rattle.float.specs.Values.{absOf}
 use Rattle.vector.specs.Points.{towardsOf, shrunkOf}
 use Rattle.protocol.specs.declared.SimplexOptions.{SimplexOptions}
-use Rattle.neldermead.specs.declared.Vertex.{Vertex}
+use Rattle.vertices.specs.declared.Vertex.{Vertex}
 use Rattle.neldermead.specs.declared.Fixed.{Fixed}
 use Rattle.neldermead.specs.declared.Simplex.{Simplex}
-use Rattle.neldermead.specs.Method.{alpha, beta, gamma, delta, resolution, better}
-use Rattle.neldermead.specs.Vertices.{vertexAt, sortedOf, centroidOf, cornerOf, anyFiniteOf, convergedOf}
+use Rattle.vertices.specs.Method.{alpha, beta, gamma, delta, resolution, better}
+use Rattle.vertices.specs.Vertices.{vertexAt, sortedOf, centroidOf, cornerOf, anyFiniteOf, convergedOf}
 
 -- ---- what the open question is for, or how the fit ended: SimplexTolerance, ObjectiveResolution, MaxIterations, MaxFevals, refusal 20
 

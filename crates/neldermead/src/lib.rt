@@ -1,8 +1,7 @@
 // Nelder and Mead's simplex, one answer at a time. Each move takes the value told for the open
 // question, and gives the record with the next question or the end in it.
-mod vertices;
-
 use protocol::SimplexOptions;
+use vertices::Vertex;
 ghost use mathlib.Core.Path.{_≡_};
 ghost use Prim.Native.Nat.{_≤_, _<_};
 ghost use Rattle.neldermead.specs.Step.{orderedOf, trialOf, reflectOf, reasonOf, rerunOrEnd, doneOf, testedOf, headedOf, replacedOf, buildOf, settledOf, builtOf, reflectedOf, expandedOf, shrinkOf, outsideOf, insideOf, shrinkingOf, toldOf, startOf};
@@ -32,12 +31,6 @@ const ITERATIONS: u64 = 9;
 const FEVALS: u64 = 10;
 
 const NOT_FINITE: u64 = 11;
-
-// A point with its value.
-pub struct Vertex {
-    pub x: [f64; 16],
-    pub f: f64,
-}
 
 // What the start fixes. The allowances are numbers: an absent one is its default. Coefficients are not
 // kept: they are made anew from n and the options, so that no record can hold others.

@@ -8,8 +8,8 @@ use lib.ListN.{length, length-append, length-map}
 use lib.Ieee.{Float}
 use Rattle.float.specs.Binary64.{plusZero}
 use Rattle.vector.specs.Lists.{addition, quotient, shrunk, towards as between}
-use Rattle.neldermead.specs.declared.Vertex.{Vertex}
-use Rattle.neldermead.specs.Method.{displaced}
+use Rattle.vertices.specs.declared.Vertex.{Vertex}
+use Rattle.vertices.specs.Method.{displaced}
 use Rattle.neldermead_theory.specs.Algorithm.{corners, Position, vertex, butLast, others, centroid, towards}
 use Rattle.neldermead_theory.specs.Laws.{All}
 use Rattle.neldermead_theory.proofs.Order.{getD-cases, butlast-from}

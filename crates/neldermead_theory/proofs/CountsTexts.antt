@@ -17,9 +17,9 @@ use Rattle.protocol.specs.Ask.{Ask, finish, _>>=_}
 use Rattle.protocol.specs.Rounds.{Ending, atHead, stops, fails}
 use Rattle.protocol.specs.Bounds.{Costs}
 use Rattle.protocol.proofs.Bounds.{costs-more, costs-bind, cond-costs}
-use Rattle.neldermead.specs.declared.Vertex.{Vertex}
-use Rattle.neldermead.specs.Order.{inOrder}
-use Rattle.neldermead.specs.Method.{better, alpha, beta, gamma, delta}
+use Rattle.vertices.specs.declared.Vertex.{Vertex}
+use Rattle.vertices.specs.Order.{inOrder}
+use Rattle.vertices.specs.Method.{better, alpha, beta, gamma, delta}
 use Rattle.neldermead_theory.specs.Algorithm.{Position, vertex, arrive, replaced, butLast, others, askVertex, askVertices, anyFinite, built, build, corners, centroid, towards, shrink, expand, contractOutside, contractInside, reflected, iterated, round}
 use Rattle.neldermead_theory.specs.Laws.{All}
 use Rattle.neldermead_theory.proofs.Order.{order-from, order-length, getD-cases, butlast-from, others-from}

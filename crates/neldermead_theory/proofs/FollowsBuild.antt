@@ -13,12 +13,12 @@ use lib.Ieee.{Float}
 use Rattle.vector.specs.Lists.{first}
 use Rattle.protocol.specs.Rounds.{atHead, fails, Limits}
 use Rattle.protocol.specs.Places.{ends}
-use Rattle.neldermead.specs.declared.Vertex.{Vertex}
+use Rattle.vertices.specs.declared.Vertex.{Vertex}
 use Rattle.neldermead.specs.declared.Fixed.{Fixed}
 use Rattle.neldermead.specs.declared.Simplex.{Simplex}
 use Rattle.neldermead_theory.specs.Algorithm.{Position, arrive, corners, anyFinite}
 use Rattle.neldermead_theory.specs.Phases.{building, buildOn}
-use Rattle.neldermead.specs.Vertices.{noVertex, vertexAt, anyFiniteOf}
+use Rattle.vertices.specs.Vertices.{noVertex, vertexAt, anyFiniteOf}
 use Rattle.neldermead.specs.Step.{notFinite, vertexOf, withVertex, phased, headedOf, buildOf, settledOf, builtOf}
 use Rattle.neldermead_theory.specs.Ties.{loweredTo, VerticesTied}
 use Rattle.neldermead_theory.specs.Follows.{Shaped, seedOf, Related, RelatedMove, settledMove, Allows}

@@ -14,14 +14,14 @@ use Rattle.protocol.specs.declared.Termination.the-variants.{SimplexTolerance, 
 use Rattle.protocol.specs.Ask.{Ask}
 use Rattle.protocol.specs.Rounds.{Ending, atHead, goOn, stop, restart, Limits, reached}
 use Rattle.protocol.specs.Places.{ends}
-use Rattle.neldermead.specs.declared.Vertex.{Vertex}
+use Rattle.vertices.specs.declared.Vertex.{Vertex}
 use Rattle.neldermead.specs.declared.Fixed.{Fixed}
 use Rattle.neldermead.specs.declared.Simplex.{Simplex}
-use Rattle.neldermead.specs.Order.{inOrder}
-use Rattle.neldermead.specs.Method.{resolution}
+use Rattle.vertices.specs.Order.{inOrder}
+use Rattle.vertices.specs.Method.{resolution}
 use Rattle.neldermead_theory.specs.Algorithm.{Position, arrive, butLast, replaced, build, iterated, rerun, converged, reason, tests}
 use Rattle.neldermead_theory.specs.Phases.{reflecting, buildAt}
-use Rattle.neldermead.specs.Vertices.{vertexAt, sortedOf, convergedOf}
+use Rattle.vertices.specs.Vertices.{vertexAt, sortedOf, convergedOf}
 use Rattle.neldermead.specs.Step.{byTolerance, byResolution, byIterations, byFevals, phased, rerun as reran, withVertex, orderedOf, trialOf, reflectOf, reasonOf, doneOf, testedOf, headedOf, replacedOf}
 use Rattle.neldermead_theory.specs.Ties.{lowered, loweredTo, Reads, VerticesTied}
 use Rattle.neldermead_theory.specs.Follows.{AtPosition, Related, StoppedBy, Stopped, RelatedMove, allowedMove, headedMove, settledMove, Allows}

@@ -15,13 +15,13 @@ use Rattle.vector.proofs.First.{ties}
 use Rattle.protocol.specs.declared.SimplexOptions.{SimplexOptions}
 use Rattle.protocol.specs.Rounds.{Limits}
 use Rattle.protocol.specs.Places.{still, ends}
-use Rattle.neldermead.specs.declared.Vertex.{Vertex}
+use Rattle.vertices.specs.declared.Vertex.{Vertex}
 use Rattle.neldermead.specs.declared.Fixed.{Fixed}
 use Rattle.neldermead.specs.declared.Simplex.{Simplex}
-use Rattle.neldermead.specs.Method.{alpha, beta, gamma}
+use Rattle.vertices.specs.Method.{alpha, beta, gamma}
 use Rattle.neldermead_theory.specs.Algorithm.{Position, vertex, replaced, towards}
 use Rattle.neldermead_theory.specs.Phases.{Phase, Move, expanding, outside, inside, pointOf, drawn, shrinkOn, reflectOn}
-use Rattle.neldermead.specs.Vertices.{noVertex, vertexAt}
+use Rattle.vertices.specs.Vertices.{noVertex, vertexAt}
 use Rattle.neldermead.specs.Step.{expanding as expandingMark, outer, inner, vertexOf, withRefl, trialOf, replacedOf, reflectedOf, expandedOf, shrinkOf, outsideOf, insideOf}
 use Rattle.neldermead_theory.specs.Ties.{lowered, VerticesTied}
 use Rattle.neldermead_theory.specs.Follows.{AtPosition, InRound, InTrial, Holds, markOf, positionOf, Related, RelatedMove, settledMove, Allows}

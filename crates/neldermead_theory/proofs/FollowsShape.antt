@@ -12,11 +12,11 @@ use lib.Ieee.{Float, lt, le, nan}
 use Rattle.float.specs.Binary64.{plusZero}
 use Rattle.vector.specs.Points.{towardsOf, shrunkOf, quotientOf}
 use Rattle.vector.proofs.First.{point-laws}
-use Rattle.neldermead.specs.declared.Vertex.{Vertex}
+use Rattle.vertices.specs.declared.Vertex.{Vertex}
 use Rattle.neldermead.specs.declared.Fixed.{Fixed}
 use Rattle.neldermead.specs.declared.Simplex.{Simplex}
-use Rattle.neldermead.specs.Method.{alpha, better}
-use Rattle.neldermead.specs.Vertices.{noVertex, vertexAt, sortedOf, centroidOf, cornerOf, anyFiniteOf, convergedOf}
+use Rattle.vertices.specs.Method.{alpha, better}
+use Rattle.vertices.specs.Vertices.{noVertex, vertexAt, sortedOf, centroidOf, cornerOf, anyFiniteOf, convergedOf}
 use Rattle.neldermead.specs.Step.{building, reflecting, expanding, outer, inner, drawing, byIterations, byFevals, notFinite, vertexOf, phased, asked, withVertex, withRefl, withRound, rerun, orderedOf, trialOf, reflectOf, doneOf, testedOf, headedOf, buildOf, settledOf, builtOf, replacedOf, reflectedOf, expandedOf, shrinkOf, outsideOf, insideOf, shrinkingOf, toldOf, startOf}
 use Rattle.neldermead_theory.specs.Ties.{ZeroFrom}
 use Rattle.neldermead_theory.specs.Follows.{EveryPoint, Shaped}

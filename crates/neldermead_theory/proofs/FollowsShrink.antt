@@ -13,13 +13,13 @@ use lib.Ieee.{Float}
 use Rattle.vector.specs.Lists.{shrunk}
 use Rattle.vector.proofs.First.{ties}
 use Rattle.protocol.specs.Rounds.{Limits}
-use Rattle.neldermead.specs.declared.Vertex.{Vertex}
+use Rattle.vertices.specs.declared.Vertex.{Vertex}
 use Rattle.neldermead.specs.declared.Fixed.{Fixed}
 use Rattle.neldermead.specs.declared.Simplex.{Simplex}
-use Rattle.neldermead.specs.Method.{delta}
+use Rattle.vertices.specs.Method.{delta}
 use Rattle.neldermead_theory.specs.Algorithm.{Position, vertex, others}
 use Rattle.neldermead_theory.specs.Phases.{shrinking, drawn, shrinkOn}
-use Rattle.neldermead.specs.Vertices.{noVertex, vertexAt}
+use Rattle.vertices.specs.Vertices.{noVertex, vertexAt}
 use Rattle.neldermead.specs.Step.{vertexOf, withVertex, headedOf, shrinkOf, shrinkingOf}
 use Rattle.neldermead_theory.specs.Ties.{lowered, loweredTo}
 use Rattle.neldermead_theory.specs.Follows.{Shaped, AtPosition, Related, RelatedMove, settledMove, Allows}

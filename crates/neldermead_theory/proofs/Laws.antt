@@ -24,8 +24,8 @@ use Rattle.protocol.proofs.Texts.{wp-bind, wp-map, grow-one}
 use Rattle.protocol.proofs.Replies.{true-T}
 use Rattle.protocol.proofs.Verdicts.{stop≢restart, go-on≢restart, go-on≢stop, stop-inj, restart-inj}
 use Rattle.protocol.proofs.Readings.{read-own}
-use Rattle.neldermead.specs.declared.Vertex.{Vertex}
-use Rattle.neldermead.specs.Method.{alpha, beta, gamma, delta}
+use Rattle.vertices.specs.declared.Vertex.{Vertex}
+use Rattle.vertices.specs.Method.{alpha, beta, gamma, delta}
 use Rattle.neldermead_theory.specs.Algorithm.{Position, vertex, arrive, replaced, butLast, others, askVertex, askVertices, anyFinite, built, build, corners, towards, shrink, expand, contractOutside, contractInside, reflected, iterated, rerun, round, tests, converged, reason, opening, nowhere, tolerance, positiveFinite, nelderMead}
 use Rattle.neldermead_theory.specs.Laws.{VertexTold, All, Cover, BestTold, AtHead, SimplexLaws}
 use Rattle.neldermead_theory.proofs.Order.{getD-cases, butlast-from}

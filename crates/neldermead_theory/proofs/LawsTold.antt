@@ -16,9 +16,9 @@ use Rattle.protocol.specs.Claim.{Exchange}
 use Rattle.protocol.specs.Ask.{heardAt, Grows}
 use Rattle.protocol.proofs.Replies.{true-T, not-above-self}
 use Rattle.protocol.proofs.Readings.{only, read-below, read-number}
-use Rattle.neldermead.specs.declared.Vertex.{Vertex}
-use Rattle.neldermead.specs.Order.{inOrder}
-use Rattle.neldermead.specs.Method.{better}
+use Rattle.vertices.specs.declared.Vertex.{Vertex}
+use Rattle.vertices.specs.Order.{inOrder}
+use Rattle.vertices.specs.Method.{better}
 use Rattle.neldermead_theory.specs.Algorithm.{Position, arrive, anyFinite}
 use Rattle.neldermead_theory.specs.Laws.{VertexTold, All, Cover, BestTold, AtHead}
 use Rattle.neldermead_theory.proofs.Order.{order-from, least-first, getD-cases}

@@ -10,8 +10,8 @@ use lib.ListN.{length, getD}
 use lib.Ieee.{Float}
 use Rattle.float.specs.Binary64.{NotAbove}
 use Rattle.float.specs.Order.{totalOrder, precedesOf}
-use Rattle.neldermead.specs.declared.Vertex.{Vertex}
-use Rattle.neldermead.specs.Order.{insert, inOrder, level, Ordered}
+use Rattle.vertices.specs.declared.Vertex.{Vertex}
+use Rattle.vertices.specs.Order.{insert, inOrder, level, Ordered}
 use Rattle.neldermead_theory.specs.Algorithm.{butLast, others}
 use Rattle.neldermead_theory.proofs.Precedes.{total, order-not-above, order-trans}
 

@@ -16,8 +16,8 @@ use Rattle.protocol.specs.Rounds.{Ending, atHead, fails, goOn, stop, restart}
 use Rattle.protocol.specs.Places.{still, ends, text, StepsLaws}
 use Rattle.protocol.proofs.Texts.{bind-assoc}
 use Rattle.protocol.proofs.Verdicts.{stop≢restart, go-on≢restart, restart-inj}
-use Rattle.neldermead.specs.declared.Vertex.{Vertex}
-use Rattle.neldermead.specs.Method.{alpha, gamma}
+use Rattle.vertices.specs.declared.Vertex.{Vertex}
+use Rattle.vertices.specs.Method.{alpha, gamma}
 use Rattle.neldermead_theory.specs.Algorithm.{Position, vertex, arrive, replaced, askVertex, askVertices, built, build, towards, centroid, shrink, expand, contractOutside, contractInside, reflected, rerun, converged, reason, tests, tolerance, positiveFinite, opening, nelderMead}
 use Rattle.neldermead_theory.specs.Phases.{Phase, building, reflecting, expanding, outside, inside, shrinking, pointOf, Move, buildOn, shrinkOn, drawn, reflectOn, told, stepOf, buildAt, openingMove, simplexSteps}
 

@@ -12,9 +12,9 @@ use borrow.Author.Tests.{eqb-true, eqb-false}
 use Rattle.vector.specs.Loops.{at}
 use Rattle.vector.specs.Points.{quotientOf, towardsOf, shrunkOf}
 use Rattle.vector.proofs.First.{point-laws}
-use Rattle.neldermead.specs.declared.Vertex.{Vertex}
-use Rattle.neldermead.specs.Method.{better, displaced}
-use Rattle.neldermead.specs.Vertices.{noVertex, vertexAt, sortedOf, centroidOf, cornerOf}
+use Rattle.vertices.specs.declared.Vertex.{Vertex}
+use Rattle.vertices.specs.Method.{better, displaced}
+use Rattle.vertices.specs.Vertices.{noVertex, vertexAt, sortedOf, centroidOf, cornerOf}
 use Rattle.neldermead_theory.specs.Ties.{VerticesTied, ZeroFrom, ZerosFrom, ZerosPast}
 use Rattle.neldermead_theory.proofs.TiesOrder.{many, vertex-at, sorted-of, sorted-many, sorted-past, sorted-from, set-inside, set-next, set-last, better-of}
 use Rattle.neldermead_theory.proofs.TiesPoints.{vertex-of, centroid-of, towards-of, size-of, converged-of, reason-of, drawn-many, drawn-at, corners-many, corner-at, any-finite}

@@ -9,11 +9,11 @@ use lib.ListN.{length, getD, set, take, drop, length-map, take-append-drop}
 use lib.Seq.{length-take-le, length-front, take-suc, take-at, take-set-lt, take-suc-set, getD-append-add, getD-drop, getD-take}
 use lib.Ieee.{lt}
 use Rattle.float.specs.Order.{precedesOf}
-use Rattle.neldermead.specs.declared.Vertex.{Vertex}
-use Rattle.neldermead.specs.Order.{insert, inOrder}
-use Rattle.neldermead.specs.Method.{better}
+use Rattle.vertices.specs.declared.Vertex.{Vertex}
+use Rattle.vertices.specs.Order.{insert, inOrder}
+use Rattle.vertices.specs.Method.{better}
 use Rattle.neldermead_theory.specs.Algorithm.{butLast}
-use Rattle.neldermead.specs.Vertices.{noVertex, vertexAt, sortedOf}
+use Rattle.vertices.specs.Vertices.{noVertex, vertexAt, sortedOf}
 use Rattle.neldermead_theory.specs.Ties.{lowered, loweredTo}
 use Rattle.neldermead_theory.proofs.Order.{order-from, order-length}
 

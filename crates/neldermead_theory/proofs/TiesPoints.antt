@@ -18,11 +18,11 @@ use Rattle.vector.proofs.First.{point-laws, ties}
 use Rattle.vector.proofs.Stores.{first-set}
 use Rattle.protocol.specs.declared.SimplexOptions.{SimplexOptions}
 use Rattle.protocol.specs.declared.Termination.the-variants.{SimplexTolerance, ObjectiveResolution}
-use Rattle.neldermead.specs.declared.Vertex.{Vertex}
-use Rattle.neldermead.specs.Method.{displaced, resolution, delta, real}
+use Rattle.vertices.specs.declared.Vertex.{Vertex}
+use Rattle.vertices.specs.Method.{displaced, resolution, delta, real}
 use Rattle.neldermead_theory.specs.Algorithm.{Position, vertex, butLast, others, anyFinite, corners, centroid, towards, size, converged, reason}
 use Rattle.neldermead_theory.specs.Phases.{drawn}
-use Rattle.neldermead.specs.Vertices.{vertexAt, summedOf, centroidOf, cornerOf, sizeOf, anyFiniteOf, flatOf, convergedOf}
+use Rattle.vertices.specs.Vertices.{vertexAt, summedOf, centroidOf, cornerOf, sizeOf, anyFiniteOf, flatOf, convergedOf}
 use Rattle.neldermead_theory.specs.Ties.{lowered, loweredTo, Reads}
 use Rattle.neldermead_theory.proofs.CountsLengths.{corners-many as corners-length, others-length}
 use Rattle.neldermead_theory.proofs.TiesOrder.{getD-map, many, vertex-at, one-more, butlast-of}

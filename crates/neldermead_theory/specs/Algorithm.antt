@@ -15,9 +15,9 @@ use Rattle.protocol.specs.declared.Termination.the-variants.{SimplexTolerance, 
 use Rattle.protocol.specs.Protocol.{readOf}
 use Rattle.protocol.specs.Ask.{Ask, finish, askValue, _>>=_}
 use Rattle.protocol.specs.Rounds.{Ending, atHead, fails, Verdict, goOn, stop, restart, Rounds}
-use Rattle.neldermead.specs.declared.Vertex.{Vertex}
-use Rattle.neldermead.specs.Order.{inOrder}
-use Rattle.neldermead.specs.Method.{real, alpha, beta, gamma, delta, displaced, resolution, better}
+use Rattle.vertices.specs.declared.Vertex.{Vertex}
+use Rattle.vertices.specs.Order.{inOrder}
+use Rattle.vertices.specs.Method.{real, alpha, beta, gamma, delta, displaced, resolution, better}
 
 -- ---- the points of a new simplex
 

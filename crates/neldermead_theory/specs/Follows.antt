@@ -17,12 +17,12 @@ use Rattle.protocol.specs.Claim.{limit}
 use Rattle.protocol.specs.Rounds.{atHead, stops, fails, Verdict, goOn, stop, restart, Rounds, Limits, reached}
 use Rattle.protocol.specs.Fits.{fits}
 use Rattle.protocol.specs.Places.{still, ends, Steps, settleTurn, mapTurn, fitsSteps}
-use Rattle.neldermead.specs.declared.Vertex.{Vertex}
+use Rattle.vertices.specs.declared.Vertex.{Vertex}
 use Rattle.neldermead.specs.declared.Fixed.{Fixed}
 use Rattle.neldermead.specs.declared.Simplex.{Simplex}
 use Rattle.neldermead_theory.specs.Algorithm.{Position, vertex, centroid, corners, tests, nowhere, nelderMead}
 use Rattle.neldermead_theory.specs.Phases.{Phase, building, reflecting, expanding, outside, inside, shrinking, pointOf, Move, drawn, stepOf, buildAt, simplexSteps}
-use Rattle.neldermead.specs.Vertices.{vertexAt}
+use Rattle.vertices.specs.Vertices.{vertexAt}
 use Rattle.neldermead.specs.Step.{building as buildingMark, reflecting as reflectingMark, expanding as expandingMark, outer, inner, drawing, byTolerance, byResolution, byIterations, byFevals, notFinite, toldOf, startOf}
 use Rattle.neldermead_theory.specs.Ties.{lowered, loweredTo, ZeroFrom}
 

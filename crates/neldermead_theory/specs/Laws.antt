@@ -13,7 +13,7 @@ use Rattle.protocol.specs.Ask.{finish}
 use Rattle.protocol.specs.Rounds.{fails, goOn, Rounds, engine}
 use Rattle.protocol.specs.RoundsLaws.{RoundsLaws}
 use Rattle.protocol.specs.Fits.{fits}
-use Rattle.neldermead.specs.declared.Vertex.{Vertex}
+use Rattle.vertices.specs.declared.Vertex.{Vertex}
 use Rattle.neldermead_theory.specs.Algorithm.{Position, nelderMead}
 
 -- the vertex's value is what was read of a word told for its point

@@ -12,8 +12,8 @@ use Rattle.protocol.specs.declared.SimplexOptions.{SimplexOptions}
 use Rattle.protocol.specs.Protocol.{readOf}
 use Rattle.protocol.specs.Rounds.{atHead, fails}
 use Rattle.protocol.specs.Places.{Turn, still, ends, Steps}
-use Rattle.neldermead.specs.declared.Vertex.{Vertex}
-use Rattle.neldermead.specs.Method.{alpha, beta, gamma, delta}
+use Rattle.vertices.specs.declared.Vertex.{Vertex}
+use Rattle.vertices.specs.Method.{alpha, beta, gamma, delta}
 use Rattle.neldermead_theory.specs.Algorithm.{Position, vertex, arrive, replaced, others, anyFinite, corners, towards, iterated, rerun, nowhere, tolerance, positiveFinite, nelderMead}
 
 -- vertices are those told so far, the point is the open one, and the points behind it are still to be asked

@@ -13,12 +13,12 @@ use Rattle.vector.specs.Points.{towardsOf, shrunkOf}
 use Rattle.vector.specs.Lists.{first}
 use Rattle.protocol.specs.declared.SimplexOptions.{SimplexOptions}
 use Rattle.protocol.specs.declared.Termination.the-variants.{SimplexTolerance, ObjectiveResolution}
-use Rattle.neldermead.specs.declared.Vertex.{Vertex}
-use Rattle.neldermead.specs.Order.{inOrder}
-use Rattle.neldermead.specs.Method.{better, resolution, delta}
+use Rattle.vertices.specs.declared.Vertex.{Vertex}
+use Rattle.vertices.specs.Order.{inOrder}
+use Rattle.vertices.specs.Method.{better, resolution, delta}
 use Rattle.neldermead_theory.specs.Algorithm.{Position, vertex, butLast, anyFinite, corners, centroid, towards, size, converged, reason}
 use Rattle.neldermead_theory.specs.Phases.{drawn}
-use Rattle.neldermead.specs.Vertices.{vertexAt, sortedOf, centroidOf, cornerOf, sizeOf, anyFiniteOf, convergedOf}
+use Rattle.vertices.specs.Vertices.{vertexAt, sortedOf, centroidOf, cornerOf, sizeOf, anyFiniteOf, convergedOf}
 
 -- the vertex with the first n coordinates alone
 abbrev pub lowered : ℕ → Vertex → Vertex

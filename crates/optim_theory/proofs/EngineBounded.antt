@@ -18,7 +18,7 @@ use Rattle.neldermead.specs.declared.Fixed.{Fixed}
 use Rattle.neldermead.specs.declared.Simplex.{Simplex}
 use Rattle.neldermead_theory.specs.Algorithm.{Position, tests, nelderMead}
 use Rattle.neldermead_theory.specs.Phases.{Phase, Move, stepOf, simplexSteps}
-use Rattle.neldermead.specs.Vertices.{vertexAt, anyFiniteOf, convergedOf}
+use Rattle.vertices.specs.Vertices.{vertexAt, anyFiniteOf, convergedOf}
 use Rattle.neldermead.specs.Step.{building, reflecting, expanding, outer, inner, drawing, orderedOf, trialOf, reflectOf, doneOf, testedOf, headedOf, buildOf, settledOf, builtOf, replacedOf, reflectedOf, expandedOf, shrinkOf, outsideOf, insideOf, shrinkingOf, toldOf, startOf}
 use Rattle.neldermead_theory.specs.Counts.{byFevals}
 use Rattle.neldermead_theory.specs.Follows.{allowedMove, headedMove, settledMove}

@@ -17,7 +17,7 @@ use Rattle.hessian.specs.Step.{InRange, blankOf as blankModel}
 use Rattle.quasinewton.specs.declared.Descent.{Descent}
 use Rattle.quasinewton.specs.declared.Fixed as quasinewtonFixed
 use Rattle.quasinewton.specs.Step.{searching, byRefusal, idleOf as idleDescent}
-use Rattle.neldermead.specs.declared.Vertex.{Vertex}
+use Rattle.vertices.specs.declared.Vertex.{Vertex}
 use Rattle.neldermead.specs.declared.Fixed.{Fixed}
 use Rattle.neldermead.specs.declared.Simplex.{Simplex}
 use Rattle.records.specs.declared.Record.{Record}

@@ -3,10 +3,10 @@ use crate::Counts;
 use crate::Limits;
 use crate::Record;
 use neldermead::Simplex;
-use neldermead::Vertex;
 use protocol::GradientOptions;
 use protocol::SimplexOptions;
 use protocol::WolfeOptions;
+use vertices::Vertex;
 ghost use mathlib.Core.Path.{_≡_};
 ghost use Rattle.records.specs.Record.{idleOf, noOptions, noGradientOptions, wolfeOptionsOf, blankOf};
 
