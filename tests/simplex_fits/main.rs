@@ -13,7 +13,10 @@ mod dialogue;
 mod fields;
 mod fits;
 mod lines;
+#[path = "../shared/objectives.rs"]
 mod objectives;
+#[path = "../shared/points.rs"]
+mod points;
 #[path = "../shared/program.rs"]
 mod program;
 #[path = "../shared/random.rs"]
