@@ -16,6 +16,7 @@ pub const WAYS: &[&str] = &[
     "midpoint: within 5% of the larger end",
     "midpoint: at 5% from the smaller end",
     "midpoint: at 5% from the larger end",
+    "cubic: discriminant 0",
     "cubic: lo below hi",
     "cubic: lo above hi",
 ];
@@ -23,12 +24,13 @@ pub const WAYS: &[&str] = &[
 pub fn trial(lo: &Trial, hi: &Trial) -> (f64, &'static str) {
     let middle = 0.5 * (lo.step + hi.step);
     match interpolated(lo, hi) {
-        Ok(step) => (step, if lo.step < hi.step { "cubic: lo below hi" } else { "cubic: lo above hi" }),
+        Ok(taken) => taken,
         Err(way) => (middle, way),
     }
 }
 
-fn interpolated(lo: &Trial, hi: &Trial) -> Result<f64, &'static str> {
+// The cubic's step, or why it is not taken.
+fn interpolated(lo: &Trial, hi: &Trial) -> Result<(f64, &'static str), &'static str> {
     if !lo.value.is_finite() {
         return Err("midpoint: value at lo not finite");
     }
@@ -58,7 +60,11 @@ fn interpolated(lo: &Trial, hi: &Trial) -> Result<f64, &'static str> {
     if denominator.is_infinite() {
         return Err("midpoint: denominator infinite");
     }
-    within(hi.step - width * (hi.slope + d2 - d1) / denominator, lo.step, hi.step)
+    let step = within(hi.step - width * (hi.slope + d2 - d1) / denominator, lo.step, hi.step)?;
+    if discriminant == 0.0 {
+        return Ok((step, "cubic: discriminant 0"));
+    }
+    Ok((step, if width > 0.0 { "cubic: lo below hi" } else { "cubic: lo above hi" }))
 }
 
 fn within(step: f64, a: f64, b: f64) -> Result<f64, &'static str> {

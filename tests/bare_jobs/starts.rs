@@ -129,8 +129,9 @@ fn on_a_line(random: &mut Random, s: f64) -> Search {
 // Start slope, c1, first step, and values and slopes by which the cubic is left for the midpoint in ways that chance seldom
 // finds.
 fn of_the_cubic(random: &mut Random) -> Drawn {
-    let (scale, s) = (random.pick(&[1.0, 2.0, 0.25, 1024.0]), random.unit());
-    let (slope, c1, step, first) = match random.below(7) {
+    let (scale, unit) = (random.pick(&[1.0, 2.0, 0.25, 1024.0]), random.unit());
+    let s = random.pick(&[unit, 33.0 / 64.0, 47.0 / 64.0]);
+    let (slope, c1, step, first) = match random.below(8) {
         // A denominator of 0: the slopes are equal and the discriminant is 0.
         0 => (-scale, 0.5, 3.0, vec![(-scale, -scale)]),
         // A trial that is not finite: width times slope overflows.
@@ -139,9 +140,12 @@ fn of_the_cubic(random: &mut Random) -> Drawn {
         2 => (-1e200 * scale, 1e-4, 1.0, vec![(1.0, 1e200)]),
         // A discriminant of infinity less infinity.
         3 => (-1e200 * scale, 1e-4, 1.0, vec![(1.0, -1e200)]),
-        // The least of a parabola, 5% from the smaller end or from the larger: rounding decides on which side.
+        // The least of a parabola, 5% from the smaller end or from the larger: rounding decides on which side, and leaves it
+        // there with the two numbers above.
         4 => (-s, 1e-4, scale, vec![(-s * scale, -s), (8.0 * s * scale, 19.0 * s)]),
         5 => (-s, 0.5, scale, vec![((0.5 / 0.95 - 1.0) * s * scale, (1.0 / 0.95 - 1.0) * s)]),
+        // A discriminant of 0, where the slopes differ.
+        6 => (-4.0 * scale, 0.6, 3.0, vec![(-7.0 * scale, -9.0 * scale)]),
         // Differences of values that overflow, from a start at the least f64.
         _ => (-scale, 1e-4, 1.0, vec![(MAX, scale)]),
     };
@@ -204,35 +208,46 @@ fn of_another_length(random: &mut Random, list: &mut Vec<f64>) {
     list.resize(if m == n { n + 1 } else { m }, 0.5);
 }
 
-fn fault(random: &mut Random, s: &mut Search) {
+const FAULTS: u64 = 14;
+
+// What brings a refusal, by its place in 01's order.
+fn fault(random: &mut Random, s: &mut Search, which: u64) {
     let long = random.pick(&[17, 17, 17, 18, 300]);
-    match random.below(21) {
-        0 => s.c1 = random.pick(REFUSED_C1),
-        1 => s.c2 = random.pick(&[s.c1, s.c1.next_down(), 0.0, 1.0, NAN, INF]),
-        2 => s.max_evals = 0,
-        3 => s.step_max = random.pick(REFUSED_STEPS),
-        4 => s.x0.clear(),
-        5 => (s.x0, s.d, s.g) = (Vec::new(), Vec::new(), Vec::new()),
-        6..=7 => of_another_length(random, &mut s.d),
-        8..=9 => of_another_length(random, &mut s.g),
-        10..=11 => spoil_one(random, &mut s.x0),
-        12 => spoil_one(random, &mut s.d),
-        13 => spoil_one(random, &mut s.g),
-        14 => s.f0 = random.pick(REFUSED_COORDINATES),
-        15 => s.initial_step = random.pick(REFUSED_STEPS),
-        16 => s.g.iter_mut().for_each(|v| *v = -*v),
-        17 => s.x0.resize(long, 0.0),
-        18 => s.d.resize(long, 0.0),
-        19 => s.g.resize(long, 0.0),
-        _ => s.max_evals = random.pick(REFUSED_EVALS),
+    match which {
+        0 => match random.below(4) {
+            0 => s.x0.resize(long, 0.0),
+            1 => s.d.resize(long, 0.0),
+            2 => s.g.resize(long, 0.0),
+            _ => s.max_evals = random.pick(REFUSED_EVALS),
+        },
+        1 => s.c1 = random.pick(REFUSED_C1),
+        2 => s.c2 = random.pick(&[s.c1, s.c1.next_down(), 0.0, 1.0, NAN, INF]),
+        3 => s.max_evals = 0,
+        4 => s.step_max = random.pick(REFUSED_STEPS),
+        5 if random.chance(50) => (s.x0, s.d, s.g) = (Vec::new(), Vec::new(), Vec::new()),
+        5 => s.x0.clear(),
+        6 => of_another_length(random, &mut s.d),
+        7 => of_another_length(random, &mut s.g),
+        8 => spoil_one(random, &mut s.x0),
+        9 => spoil_one(random, &mut s.d),
+        10 => spoil_one(random, &mut s.g),
+        11 => s.f0 = random.pick(REFUSED_COORDINATES),
+        12 => s.initial_step = random.pick(REFUSED_STEPS),
+        _ => s.g.iter_mut().for_each(|v| *v = -*v),
     }
 }
 
+// One thing that is refused; with it, now and then, the one that 01 has after it, and any other.
 fn refused(random: &mut Random) -> Drawn {
     let drawn = if random.chance(50) { of_a_function(random) } else { by_script(random) };
     let Start::Search(mut start) = drawn.start else { unreachable!("searches are drawn") };
-    for _ in 0..1 + random.below(3) {
-        fault(random, &mut start);
+    let (which, any) = (random.below(FAULTS), random.below(FAULTS));
+    fault(random, &mut start, which);
+    if random.chance(50) {
+        fault(random, &mut start, (which + 1) % FAULTS);
+    }
+    if random.chance(20) {
+        fault(random, &mut start, any);
     }
     scripted(random, start, MANNERS[1], Vec::new())
 }
