@@ -1,17 +1,14 @@
 // A dialogue with the fit program: the lines given, and the line that is due for each. Questions, ends and the refusals of
 // 4 to 12 and 20 are the Rust's; the forms of lines and 2, 15, 16, 17 and the repeat are 01's rules, which the Rust has not.
 
-use crate::lines::{self, Answer, G, V};
+use crate::fields::{self, Answer, G, V};
+use crate::lines;
 use crate::objectives::Objective;
+use crate::program::Entry;
 use crate::reached::{self, Reached};
 use crate::rust::{self, Outcome, Run, Start};
 use crate::shadow;
 use tsecon_optim::OptimizeResult;
-
-pub struct Entry {
-    pub line: String,
-    pub due: Option<String>,
-}
 
 enum Stage {
     Job,
@@ -36,13 +33,13 @@ fn ended(result: &OptimizeResult) -> String {
     let converged = if result.converged { "yes" } else { "no" };
     let counts = format!("{} {} {}", result.iterations, result.fevals, result.gevals);
     let values: Vec<f64> = [result.f].iter().chain(&result.x).copied().collect();
-    format!("end {:?} {converged} {counts}{}", result.termination, lines::printed(&values))
+    format!("end {:?} {converged} {counts}{}", result.termination, fields::printed(&values))
 }
 
 // The open question after `accepted` answers, or the outcome.
 fn standing(run: &Run, accepted: usize) -> String {
     if let Some(point) = run.points.get(accepted) {
-        return format!("ask {} V{}", accepted + 1, lines::printed(point));
+        return format!("ask {} V{}", accepted + 1, fields::printed(point));
     }
     match &run.outcome {
         Outcome::Result(result) => ended(result),
@@ -88,7 +85,7 @@ impl Dialogue {
     // Whether a line would be accepted: then it must be the answer that the Rust's run was given.
     pub fn accepts(&self, line: &str) -> bool {
         let right = |a: Answer| a.number == self.accepted() + 1 && a.kind == V && a.words.len() == 1;
-        self.run().is_some() && !self.has_ended() && lines::answer(line).is_some_and(right)
+        self.run().is_some() && !self.has_ended() && fields::answer(line).is_some_and(right)
     }
 
     pub fn give(&mut self, line: String) {
@@ -125,7 +122,7 @@ impl Dialogue {
     // The reply to a line where an answer is wanted, or nothing where it is none.
     fn heard(&mut self, line: &str) -> Option<String> {
         let (start, run) = self.fit.take().expect("answers are heard after a start");
-        let answer = lines::answer(line);
+        let answer = fields::answer(line);
         let reply = match &answer {
             Some(answer) => Some(self.answer(&run, answer)),
             None => {
@@ -192,7 +189,7 @@ impl Dialogue {
     }
 
     fn note_bad_answer(&mut self, run: &Run, line: &str) {
-        let number = line.split(' ').next().and_then(lines::decimal);
+        let number = line.split(' ').next().and_then(fields::decimal);
         self.reached.insert("bad: an answer");
         if self.accepted > 0 && number == Some(self.accepted()) {
             self.reached.insert("bad: with the repeat's number");

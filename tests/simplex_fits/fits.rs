@@ -1,7 +1,8 @@
 // A random fit: its start, the right answers, and lines out of turn between and after them.
 
-use crate::dialogue::{Dialogue, Entry};
-use crate::lines;
+use crate::dialogue::Dialogue;
+use crate::fields;
+use crate::program::Given;
 use crate::random::Random;
 use crate::reached::Reached;
 use crate::rust::Start;
@@ -10,12 +11,8 @@ use crate::starts;
 
 pub struct Fit {
     pub seed: u64,
-    pub entries: Vec<Entry>,
+    pub given: Given,
     pub reached: Reached,
-    // Whether each reply is read before the next line is given.
-    pub line_by_line: bool,
-    // Whether the last line has its line feed.
-    pub ended: bool,
 }
 
 struct Manner {
@@ -38,7 +35,7 @@ fn start_lines(random: &mut Random, manner: &Manner, start: &Start, reached: &mu
     let mut allowance = |given: Option<u64>| given.map_or("-".into(), |most| decimal(random, manner, most, reached));
     let (max_iter, max_fevals) = (allowance(start.max_iter), allowance(start.max_fevals));
     let restarts = decimal(random, manner, start.restarts, reached);
-    let bits = |values: &[f64]| lines::given(&values.iter().map(|v| v.to_bits()).collect::<Vec<_>>()).trim_start().to_string();
+    let bits = |values: &[f64]| fields::given(&values.iter().map(|v| v.to_bits()).collect::<Vec<_>>()).trim_start().to_string();
     let floats = bits(&[start.x_tol, start.f_tol, start.initial_step]);
     let options = format!("{floats} {max_iter} {max_fevals} {restarts} {}", start.adaptive as u8);
     vec![format!("simplex {n}"), options, bits(&start.x0)]
@@ -46,7 +43,7 @@ fn start_lines(random: &mut Random, manner: &Manner, start: &Start, reached: &mu
 
 fn right_answer(random: &mut Random, manner: &Manner, d: &mut Dialogue, told: u64) -> String {
     let number = decimal(random, manner, d.accepted() + 1, &mut d.reached);
-    format!("{number} V{}", lines::given(&[told]))
+    format!("{number} V{}", fields::given(&[told]))
 }
 
 // An answer of the right form that is not accepted.
@@ -63,10 +60,10 @@ fn out_of_turn(random: &mut Random, manner: &Manner, d: &mut Dialogue) -> String
     let count = if random.chance(1) { 1000 } else { random.pick(&[0, 1, 1, 1, 1, 2, 3, 16, 17, 18, 40]) };
     let any = [random.next(), 0, 0x7FF8_0000_0000_0000, 0x3FF0_0000_0000_0000, d.last_told().unwrap_or(0)];
     let words: Vec<u64> = (0..count).map(|_| random.pick(&any)).collect();
-    let kind = random.pick(&[lines::V, lines::V, lines::G]);
+    let kind = random.pick(&[fields::V, fields::V, fields::G]);
     let number = decimal(random, manner, number, &mut d.reached);
-    let line = format!("{number} {kind}{}", lines::given(&words));
-    if d.accepts(&line) { line.replacen(lines::V, "G", 1) } else { line }
+    let line = format!("{number} {kind}{}", fields::given(&words));
+    if d.accepts(&line) { line.replacen(fields::V, "G", 1) } else { line }
 }
 
 fn give_spoilt(random: &mut Random, manner: &Manner, d: &mut Dialogue) {
@@ -150,5 +147,5 @@ pub fn fit(seed: u64) -> Fit {
     if !ended {
         d.reached.insert("no line feed at the end");
     }
-    Fit { seed, entries: d.entries, reached: d.reached, line_by_line, ended }
+    Fit { seed, given: Given { entries: d.entries, line_by_line, ended }, reached: d.reached }
 }

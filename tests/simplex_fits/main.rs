@@ -4,60 +4,49 @@
 // simplex_fits PROGRAM FITS SEED: stops at the first line that differs; fit k of them has the seed SEED + k.
 // simplex_fits --sample FITS SEED: prints fits with the lines that are due.
 
+#[path = "../shared/choice.rs"]
+mod choice;
+#[path = "../shared/counts.rs"]
+mod counts;
 mod dialogue;
+#[path = "../shared/fields.rs"]
+mod fields;
 mod fits;
 mod lines;
+#[path = "../shared/objectives.rs"]
 mod objectives;
+#[path = "../shared/points.rs"]
+mod points;
+#[path = "../shared/program.rs"]
 mod program;
+#[path = "../shared/random.rs"]
 mod random;
 mod reached;
 mod rust;
 mod sample;
 mod shadow;
+#[path = "../shared/spoil.rs"]
 mod spoil;
 mod starts;
 
-use std::collections::BTreeMap;
+use counts::Counts;
 use std::hint::black_box;
 use std::process::ExitCode;
 
-fn report(fit: &fits::Fit, difference: &program::Difference) {
-    let manner = if fit.line_by_line { "line by line" } else { "all lines at once" };
-    println!("differs: the fit of seed {}, given {manner}, at line {}", fit.seed, difference.number);
-    println!("  line: {}", difference.line.escape_debug());
-    println!("  due:  {}", difference.due);
-    println!("  came: {}", difference.came.trim_end_matches('\n').escape_debug());
-}
-
-// How many fits reached each thing; false where one was never reached.
-fn counted(counts: &BTreeMap<&str, u64>) -> bool {
-    let mut whole = true;
-    for name in reached::all() {
-        let count = counts.get(name).copied().unwrap_or(0);
-        whole &= count > 0;
-        println!("{count:8} {name}{}", if count == 0 { ": NOT REACHED" } else { "" });
-    }
-    let unknown: Vec<_> = counts.keys().filter(|name| !reached::all().any(|known| known == **name)).collect();
-    assert!(unknown.is_empty(), "not in the list: {unknown:?}");
-    whole
-}
-
 fn compare(program: &str, count: u64, seed: u64) -> ExitCode {
-    let mut counts = BTreeMap::new();
+    let mut counts = Counts::default();
     let (mut given, mut printed) = (0, 0);
     for i in 0..count {
         let fit = fits::fit(seed.wrapping_add(i));
-        if let Err(difference) = program::compare(program, &fit) {
-            report(&fit, &difference);
+        if let Err(difference) = program::compare(program, &fit.given) {
+            difference.report(&format!("the fit of seed {}", fit.seed), &fit.given);
             return ExitCode::FAILURE;
         }
-        given += fit.entries.len();
-        printed += fit.entries.iter().filter(|entry| entry.due.is_some()).count();
-        for name in &fit.reached {
-            *counts.entry(*name).or_insert(0) += 1;
-        }
+        given += fit.given.entries.len();
+        printed += fit.given.entries.iter().filter(|entry| entry.due.is_some()).count();
+        counts.add(&fit.reached);
     }
-    let whole = counted(&counts);
+    let whole = counts.report(&reached::all());
     println!("{count} fits equal: {given} lines given, {printed} lines printed");
     if whole { ExitCode::SUCCESS } else { ExitCode::FAILURE }
 }

@@ -1,11 +1,11 @@
 // What the fits are to reach. Every name is held against this list, so that one that is misspelt or never met is found.
 
+use crate::fields;
 use crate::lines;
 use crate::rust::{Run, Start};
 use crate::shadow;
-use std::collections::BTreeSet;
 
-pub type Reached = BTreeSet<&'static str>;
+pub use crate::counts::Reached;
 
 // Things of the pipe, which a sample of lines does not hold.
 pub const OF_THE_PIPE: &[&str] = &["talked to line by line", "all lines at once", "no line feed at the end"];
@@ -82,25 +82,25 @@ pub const ANSWERS: &[&str] = &[
     "the input ends before line 3",
 ];
 
-pub fn all() -> impl Iterator<Item = &'static str> {
-    [OF_THE_PIPE, STARTS, ANSWERS, shadow::MOVES].into_iter().flatten().copied()
+pub fn all() -> Vec<&'static str> {
+    [OF_THE_PIPE, STARTS, ANSWERS, shadow::MOVES].into_iter().flatten().copied().collect()
 }
 
 pub fn note_bad(reached: &mut Reached, number: usize, line: &str) {
-    let fields: Vec<&str> = line.split(' ').collect();
-    let large = |f: &str| f.len() > 19 && f.bytes().all(|b| b.is_ascii_digit()) && lines::decimal(f).is_none();
-    let mended = fields.iter().map(|f| if large(f) { "1" } else { f }).collect::<Vec<_>>().join(" ");
+    let parts: Vec<&str> = line.split(' ').collect();
+    let large = |f: &str| f.len() > 19 && f.bytes().all(|b| b.is_ascii_digit()) && fields::decimal(f).is_none();
+    let mended = parts.iter().map(|f| if large(f) { "1" } else { f }).collect::<Vec<_>>().join(" ");
     let mends = match number {
         1 => lines::job(&mended).is_some(),
         2 => lines::options(&mended).is_some(),
         3 => false,
-        _ => lines::answer(&mended).is_some(),
+        _ => fields::answer(&mended).is_some(),
     };
     let marks = [
         (number == 1, "bad 1"),
         (number == 2, "bad 2"),
         (number == 3, "bad 3"),
-        (number == 3 && lines::point(line, fields.len() as u64).is_some(), "bad 3: another count of words"),
+        (number == 3 && lines::point(line, parts.len() as u64).is_some(), "bad 3: another count of words"),
         (line.is_empty(), "bad: an empty line"),
         (line.contains('\r'), "bad: a carriage return"),
         (line.contains('\t'), "bad: a tab"),

@@ -1,6 +1,7 @@
 // Starts of fits: usual, extreme and refused options and points, and starts made so that a rare thing comes about.
 
 use crate::objectives::{self, Failing, Objective, Shape, TIED, ZEROS, ZEROS_AND_MORE};
+use crate::points::{coordinates, point, REFUSED_COORDINATES};
 use crate::random::Random;
 use crate::rust::Start;
 
@@ -15,9 +16,6 @@ const REFUSED_TOLERANCES: &[f64] = &[-TINY, -1e-310, -1e-8, -1.0, -MAX, NAN, -NA
 const USUAL_STEPS: &[f64] = &[0.05, 0.05, 0.01, 0.1, 0.5, 1.0, 2.0];
 const EXTREME_STEPS: &[f64] = &[TINY, 1e-310, 1e-300, 1e-20, 1e16, 1e300, MAX];
 const REFUSED_STEPS: &[f64] = &[0.0, -0.0, -TINY, -0.05, -MAX, NAN, -NAN, INF, -INF];
-const EXTREME_COORDINATES: &[f64] =
-    &[0.0, -0.0, TINY, -TINY, 1e-310, -1e-310, 1e-9, -1e-9, 0.00025, -0.005, 1e16, -1e16, 1e300, -1e300, MAX, -MAX];
-const REFUSED_COORDINATES: &[f64] = &[NAN, -NAN, INF, -INF];
 const REFUSED_ALLOWANCES: &[u64] = &[1_000_001, 1_000_001, 1 << 32, 1 << 63, u64::MAX];
 const REFUSED_RESTARTS: &[u64] = &[101, 101, 1 << 32, u64::MAX];
 
@@ -26,33 +24,6 @@ pub struct Drawn {
     pub start: Start,
     pub objective: Objective,
     pub most: usize,
-}
-
-fn coordinate(random: &mut Random, extreme: u64) -> f64 {
-    if random.chance(extreme) {
-        return random.pick(EXTREME_COORDINATES);
-    }
-    match random.below(4) {
-        0 => random.pick(&[1.0, -1.0, 0.5, 2.0, -1.2]),
-        1 => 200.0 * (random.unit() - 0.5),
-        _ => 4.0 * (random.unit() - 0.5),
-    }
-}
-
-fn point(random: &mut Random, n: usize) -> Vec<f64> {
-    let extreme = random.pick(&[0, 0, 0, 10, 40, 100]);
-    (0..n).map(|_| coordinate(random, extreme)).collect()
-}
-
-fn coordinates(random: &mut Random) -> usize {
-    match random.below(20) {
-        0..=4 => 1,
-        5..=9 => 2,
-        10..=12 => 3,
-        13..=14 => 4,
-        15..=17 => 5 + random.below(11) as usize,
-        _ => 16,
-    }
 }
 
 fn allowance(random: &mut Random, extreme: bool) -> Option<u64> {

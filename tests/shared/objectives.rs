@@ -80,7 +80,8 @@ impl Objective {
         x.iter().zip(self.centre.iter().cycle()).map(|(v, c)| v - c).collect()
     }
 
-    fn shaped(&self, x: &[f64]) -> f64 {
+    // The value but for scale, offset, steps and failing.
+    pub fn shaped(&self, x: &[f64]) -> f64 {
         let d = self.about_centre(x);
         let (by_point, by_call) = (hash(self.seed, x), mix(self.seed ^ mix(self.calls)));
         match self.shape {

@@ -1,6 +1,5 @@
-// Talks to the program that is compared, and holds each line that it prints against the one that is due.
+// Talks to the program that is compared, and holds each line that it prints to the one that is due.
 
-use crate::fits::Fit;
 use std::io::{BufRead, BufReader, ErrorKind, Write};
 use std::process::{Child, ChildStdin, ChildStdout, Command, Stdio};
 use std::sync::mpsc::{channel, Receiver, RecvTimeoutError};
@@ -10,12 +9,36 @@ use std::time::Duration;
 // How long a reply may take: past this the program is held to be waiting for more input.
 const PATIENCE: Duration = Duration::from_secs(20);
 
+pub struct Entry {
+    pub line: String,
+    pub due: Option<String>,
+}
+
+// The lines that one process is given.
+pub struct Given {
+    pub entries: Vec<Entry>,
+    // Whether each reply is read before the next line is given.
+    pub line_by_line: bool,
+    // Whether the last line has its line feed.
+    pub ended: bool,
+}
+
 pub struct Difference {
     // The number of the line given, and the line.
     pub number: usize,
     pub line: String,
     pub due: String,
     pub came: String,
+}
+
+impl Difference {
+    pub fn report(&self, name: &str, given: &Given) {
+        let manner = if given.line_by_line { "line by line" } else { "all lines at once" };
+        println!("differs: {name}, given {manner}, at line {}", self.number);
+        println!("  line: {}", self.line.escape_debug());
+        println!("  due:  {}", self.due);
+        println!("  came: {}", self.came.trim_end_matches('\n').escape_debug());
+    }
 }
 
 // The lines that the program prints, each with its line feed. They are read beside the talk, so that neither side can be
@@ -68,18 +91,18 @@ impl Talk {
         Talk { child, stdin, lines }
     }
 
-    fn replies(&mut self, fit: &Fit) -> Result<(), Difference> {
-        if !fit.line_by_line {
-            let mut input: String = fit.entries.iter().flat_map(|entry| [&entry.line, "\n"]).collect();
-            if !fit.ended {
+    fn replies(&mut self, given: &Given) -> Result<(), Difference> {
+        if !given.line_by_line {
+            let mut input: String = given.entries.iter().flat_map(|entry| [&entry.line, "\n"]).collect();
+            if !given.ended {
                 input.pop();
             }
             write(&mut self.stdin, input.as_bytes());
             self.stdin = None;
         }
-        for (i, entry) in fit.entries.iter().enumerate() {
-            if fit.line_by_line {
-                self.give(&entry.line, fit.ended || i + 1 < fit.entries.len());
+        for (i, entry) in given.entries.iter().enumerate() {
+            if given.line_by_line {
+                self.give(&entry.line, given.ended || i + 1 < given.entries.len());
             }
             if let Some(due) = &entry.due {
                 let came = next(&self.lines);
@@ -114,11 +137,11 @@ impl Talk {
     }
 }
 
-pub fn compare(program: &str, fit: &Fit) -> Result<(), Difference> {
+pub fn compare(program: &str, given: &Given) -> Result<(), Difference> {
     let mut talk = Talk::begin(program);
-    let compared = talk.replies(fit).and_then(|()| {
-        let last = fit.entries.len();
-        let line = fit.entries.last().map_or(String::new(), |entry| entry.line.clone());
+    let compared = talk.replies(given).and_then(|()| {
+        let last = given.entries.len();
+        let line = given.entries.last().map_or(String::new(), |entry| entry.line.clone());
         talk.end().map_err(|(due, came)| Difference { number: last, line, due, came })
     });
     if compared.is_err() {
