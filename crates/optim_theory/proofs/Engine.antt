@@ -18,7 +18,7 @@ use Rattle.neldermead_theory.specs.Phases.{simplexSteps}
 use Rattle.neldermead_theory.specs.Laws.{gradientless}
 use Rattle.neldermead_theory.proofs.Phases.{simplex-steps}
 use Rattle.neldermead_theory.proofs.Claim.{claim, at-most}
-use Rattle.optim.specs.declared.Record.{Record}
+use Rattle.records.specs.declared.Record.{Record}
 use Rattle.optim_theory.specs.Engine.{startCode, answerCode, code, CodeClaim, CodeAtMost, InRange, Zeros, AsAlgorithm}
 use Rattle.optim_theory.proofs.EngineRelated.{noPlaces, no-places-laws, allFits, allSteps, Place, Relates}
 use Rattle.optim_theory.proofs.EngineAnswers.{answers, valid-of}

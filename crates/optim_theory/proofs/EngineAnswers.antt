@@ -19,9 +19,10 @@ use Rattle.neldermead_theory.specs.Phases.{Phase, stepOf}
 use Rattle.neldermead.specs.Step.{toldOf}
 use Rattle.neldermead_theory.specs.Follows.{Related, RelatedMove, settledMove, Allows}
 use Rattle.neldermead_theory.proofs.Follows.{simplex-follows, settles-as-fits}
-use Rattle.optim.specs.declared.Record.{Record}
-use Rattle.optim.specs.Record.{simplexMark, searchMark, most, lastAsking, fixedOf, validOf}
-use Rattle.optim.specs.Answer.{overOf, gradientDueOf, standingOf, repeatsOf, valuedOf, steppedOf, takenOf, takenGradientOf, suitsOf, heardOf, answerOf}
+use Rattle.records.specs.declared.Record.{Record}
+use Rattle.records.specs.Record.{simplexMark, searchMark, most, lastAsking, fixedOf, validOf}
+use Rattle.stands.specs.Standing.{overOf, gradientDueOf, standingOf}
+use Rattle.optim.specs.Answer.{repeatsOf, valuedOf, steppedOf, takenOf, takenGradientOf, suitsOf, heardOf, answerOf}
 use Rattle.optim_theory.specs.Engine.{answerCode}
 use Rattle.optim_theory.proofs.Replies.{stands-keeps}
 use Rattle.optim_theory.proofs.EngineBounded.{told-within, step-keeps}

@@ -26,9 +26,9 @@ use Rattle.neldermead.specs.Step.{byTolerance, byResolution, byIterations, byFe
 use Rattle.neldermead_theory.specs.Counts.{byFevals}
 use Rattle.neldermead_theory.specs.Ties.{lowered, ZeroFrom}
 use Rattle.neldermead_theory.specs.Follows.{EveryPoint, Shaped, markOf, Related, Stopped, RelatedMove, Allows}
-use Rattle.optim.specs.declared.Record.{Record}
-use Rattle.optim.specs.Record.{simplexMark, most, mostAllowed, mostRestarts, lastAsking, lastPhase, fixedOf, validSimplexOf, validOf}
-use Rattle.optim.specs.Answer.{terminationOf, resultOf, standingSimplexOf, standingOf}
+use Rattle.records.specs.declared.Record.{Record}
+use Rattle.records.specs.Record.{simplexMark, most, mostAllowed, mostRestarts, lastAsking, lastPhase, fixedOf, validSimplexOf, validOf}
+use Rattle.stands.specs.Standing.{terminationOf, resultOf, standingSimplexOf, standingOf}
 use Rattle.optim_theory.proofs.EngineBounded.{Within, Budget}
 
 -- ---- the engine that is followed

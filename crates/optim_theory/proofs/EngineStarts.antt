@@ -29,10 +29,11 @@ use Rattle.neldermead_theory.specs.Algorithm.{nowhere, tolerance, positiveFinit
 use Rattle.neldermead_theory.specs.Phases.{Move, buildAt, openingMove}
 use Rattle.neldermead_theory.specs.Follows.{RelatedMove, Allows}
 use Rattle.neldermead_theory.proofs.Follows.{simplex-follows}
-use Rattle.optim.specs.declared.Record.{Record}
-use Rattle.optim.specs.Record.{mostAllowed, blankOf, fixedOf}
-use Rattle.optim.specs.Answer.{refusedOf, standingOf}
-use Rattle.optim.specs.Start.{excessOf, pastLimitsOf, startRefusalOf, limitOf, limitsOf as limitsFor, simplexRecordOf, simplexOf}
+use Rattle.records.specs.declared.Record.{Record}
+use Rattle.records.specs.Record.{mostAllowed, blankOf, fixedOf}
+use Rattle.stands.specs.Standing.{refusedOf, standingOf}
+use Rattle.starts.specs.Starts.{excessOf, pastLimitsOf, simplexRefusalOf, limitOf, simplexLimitsOf, simplexRecordOf}
+use Rattle.optim.specs.Start.{simplexOf}
 use Rattle.optim_theory.specs.Engine.{allowance, allowances, startCode}
 use Rattle.optim_theory.proofs.Replies.{stands-keeps}
 use Rattle.optim_theory.proofs.EngineBounded.{start-within, opening-keeps}
@@ -135,7 +136,7 @@ module _ (o : SimplexOptions) (i e : Option ℕ) (x : List Float) where
   made = simplexRecordOf point n o (allowances fit)
 
   allows : Allows (fixedOf made) (limitsOf fit)
-  unfolding simplexRecordOf limitsFor limitOf
+  unfolding simplexRecordOf simplexLimitsOf limitOf
   allows = record { iter = given i; fevals = also e }
     where
       given : (k : Option ℕ) → limitsOf (record { job = simplex o; maxIter = k; maxFevals = e; x0 = x }) .iter ≡ limit (limitOf (allowance k) (200 * n * (1 + o .restarts)))
@@ -147,7 +148,7 @@ module _ (o : SimplexOptions) (i e : Option ℕ) (x : List Float) where
       also (some k) = refl
 
   made-sound : n ≤ 16 → 1 ≤ n → o .restarts ≤ 100 → excess i ≡ false → excess e ≡ false → Sound made
-  unfolding simplexRecordOf limitsFor fromSliceOf
+  unfolding simplexRecordOf simplexLimitsOf fromSliceOf
   made-sound small above few a b =
       record {
         job = refl;
@@ -174,7 +175,7 @@ module _ (o : SimplexOptions) (i e : Option ℕ) (x : List Float) where
       (t .0, λ m. subst (λ (z : Record). Relates z (putMove (limitsOf fit) 0 (buildAt (nowhere o x) x) .1)) (sym (stands-keeps made)) (t .1))
 
   simplex-starts : Begun (simplexOf x o (allowances fit)) (startAt allFits allSteps fit)
-  unfolding simplexOf startRefusalOf pastLimitsOf
+  unfolding simplexOf simplexRefusalOf pastLimitsOf
   simplex-starts =
       rw (excess-as i, excess-as e)
       (refuse-two l (ltb 16 n) (excess i) (excess e) (ltb 100 (o .restarts)) _ _ (openingMove o x)

@@ -17,10 +17,12 @@ use Rattle.objective.specs.Algorithm.{differences}
 use Rattle.objective.specs.Step.{toldOf}
 use Rattle.objective.specs.Follows.{Sized}
 use Rattle.objective.proofs.Follows.{follows}
-use Rattle.optim.specs.declared.Record.{Record}
-use Rattle.optim.specs.Record.{Other}
-use Rattle.optim.specs.Answer.{standingDifferencesOf, standingOf, valuedOf, steppedOf, takenOf}
-use Rattle.optim.specs.Start.{begunRecordOf, differencesOf}
+use Rattle.records.specs.declared.Record.{Record}
+use Rattle.records.specs.Record.{Other}
+use Rattle.stands.specs.Standing.{standingDifferencesOf, standingOf}
+use Rattle.optim.specs.Answer.{valuedOf, steppedOf, takenOf}
+use Rattle.starts.specs.Starts.{begunRecordOf}
+use Rattle.optim.specs.Start.{differencesOf}
 use Rattle.optim_theory.specs.Jobs.{shown}
 use Rattle.optim_theory.specs.Follows.{asTold, differencesEnding, rest, after, JobFollows}
 

@@ -17,14 +17,16 @@ use Rattle.protocol.specs.declared.WolfeOptions.{WolfeOptions}
 use Rattle.protocol.specs.declared.Refusal.{Refusal}
 use Rattle.protocol.specs.Protocol.{Reply, noRefusal}
 use Rattle.neldermead.specs.Step.{notFinite}
-use Rattle.optim.specs.declared.Record.{Record}
+use Rattle.records.specs.declared.Record.{Record}
 use Rattle.linesearch.specs.declared.Line.{Line}
 use Rattle.linesearch.specs.Trials.{one}
 use Rattle.linesearch.specs.Start.{lineFromOf, optionsRefusalOf, countsRefusalOf, lineRefusalOf}
 use Rattle.linesearch.specs.Step.{asksGradient, asksDifference}
-use Rattle.optim.specs.Record.{simplexMark, searchMark, lastAsking, blankOf, validOf}
-use Rattle.optim.specs.Answer.{refusedOf, overOf, gradientDueOf, standingSimplexOf, standingSearchOf, standingDifferencesOf, standingOf, repeatsOf, steppedOf, gradedOf, takenOf, takenGradientOf, suitsOf, heardOf, answerOf}
-use Rattle.optim.specs.Start.{begunRecordOf, differencesOf, pastLimitsOf, startRefusalOf, simplexRecordOf, simplexOf, searchPastLimitsOf, searchRefusalOf, searchRecordOf, searchOf}
+use Rattle.records.specs.Record.{simplexMark, searchMark, lastAsking, blankOf, validOf}
+use Rattle.stands.specs.Standing.{refusedOf, overOf, gradientDueOf, standingSimplexOf, standingSearchOf, standingDifferencesOf, standingOf}
+use Rattle.optim.specs.Answer.{repeatsOf, steppedOf, gradedOf, takenOf, takenGradientOf, suitsOf, heardOf, answerOf}
+use Rattle.starts.specs.Starts.{begunRecordOf, pastLimitsOf, simplexRefusalOf, simplexRecordOf, searchPastLimitsOf, searchRefusalOf, searchRecordOf}
+use Rattle.optim.specs.Start.{differencesOf, simplexOf, searchOf}
 use Rattle.optim_theory.specs.Replies.{InScope, turnsAway, Answers, refusesSearch, SearchScope, Starts}
 
 -- what holds of both arms holds of a test
@@ -96,8 +98,8 @@ low : (b : Bool) (x y : Refusal) → x .number ≤ 20 → y .number ≤ 20 → c
 low true x y p q = p
 low false x y p q = q
 
-refusal-low : (count : ℕ) (o : SimplexOptions) (a : Allowances) → startRefusalOf count o a .number ≤ 20
-unfolding startRefusalOf
+refusal-low : (count : ℕ) (o : SimplexOptions) (a : Allowances) → simplexRefusalOf count o a .number ≤ 20
+unfolding simplexRefusalOf
 refusal-low count o a =
     low (pastLimitsOf count o a) _ _ (omega arith)
     (low (not (toleranceOf (o .xtol))) _ _ (omega arith)
@@ -180,7 +182,7 @@ pub starts : Starts
 unfolding differencesOf simplexOf searchOf
 starts = record {
   differences-in-scope = λ x. either (λ a. InScope (a .0)) (ltb 16 (length x)) _ _ (omega arith, omega arith) (stands (begunRecordOf x) (begunRecordOf x) .0);
-  simplex-in-scope = λ x o a. refused-or (startRefusalOf (length x) o a) (refusal-low (length x) o a) _
+  simplex-in-scope = λ x o a. refused-or (simplexRefusalOf (length x) o a) (refusal-low (length x) o a) _
       (either (λ (z : Reply × Record). InScope (z .0)) (not (allFiniteOf (fromSliceOf x (length x)) (length x))) _ _ (omega arith, omega arith)
       (let r = simplexRecordOf (fromSliceOf x (length x)) (length x) o a in stands r r .0));
   search-in-scope = λ x d f0 g step o gradients.

@@ -28,9 +28,10 @@ use Rattle.linesearch_theory.specs.Counts.{perTrial}
 use Rattle.linesearch_theory.specs.Follows.{kindOf, ZeroFrom, LineHas, Shaped, ZeroPast, toDo, outcome, answered}
 use Rattle.linesearch_theory.proofs.Follows.{search-follows}
 use Rattle.quasinewton.specs.Step.{searching}
-use Rattle.optim.specs.declared.Record.{Record}
-use Rattle.optim.specs.Record.{simplexMark, searchMark, most, mostEvals, searchFixedOf, validSearchOf, validOf}
-use Rattle.optim.specs.Answer.{overOf, gradientDueOf, searchResultOf, standingSearchOf, standingOf, valuedOf, steppedOf, gradedOf}
+use Rattle.records.specs.declared.Record.{Record}
+use Rattle.records.specs.Record.{simplexMark, searchMark, most, mostEvals, searchFixedOf, validSearchOf, validOf}
+use Rattle.stands.specs.Standing.{overOf, gradientDueOf, searchResultOf, standingSearchOf, standingOf}
+use Rattle.optim.specs.Answer.{valuedOf, steppedOf, gradedOf}
 use Rattle.optim_theory.specs.Follows.{asTold}
 use Rattle.optim_theory.specs.Jobs.{Text, shown}
 use Rattle.optim_theory.specs.Search.{searchEnding}

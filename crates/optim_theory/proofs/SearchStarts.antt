@@ -34,10 +34,11 @@ use Rattle.linesearch_theory.specs.Counts.{perTrial}
 use Rattle.linesearch_theory.specs.Follows.{loweredLine, ZeroFrom, LineHas}
 use Rattle.linesearch_theory.proofs.Follows.{search-follows}
 use Rattle.linesearch_theory.proofs.Counts.{counts}
-use Rattle.optim.specs.declared.Record.{Record}
-use Rattle.optim.specs.Record.{mostEvals, blankOf}
-use Rattle.optim.specs.Answer.{refusedOf, standingOf}
-use Rattle.optim.specs.Start.{searchPastLimitsOf, searchRefusalOf, searchOptionsOf, begunSearchOf, searchRecordOf, searchOf}
+use Rattle.records.specs.declared.Record.{Record}
+use Rattle.records.specs.Record.{mostEvals, blankOf}
+use Rattle.stands.specs.Standing.{refusedOf, standingOf}
+use Rattle.starts.specs.Starts.{searchPastLimitsOf, searchRefusalOf, searchOptionsOf, begunSearchOf, searchRecordOf}
+use Rattle.optim.specs.Start.{searchOf}
 use Rattle.optim_theory.specs.Follows.{asTold}
 use Rattle.optim_theory.specs.Jobs.{shown}
 use Rattle.optim_theory.specs.Search.{Start, searchText, searchEnding, searchPastLimits, searchCode}

@@ -19,9 +19,10 @@ use Rattle.neldermead_theory.specs.Laws.{gradientless}
 use Rattle.neldermead_theory.specs.Counts.{byFevals, byIterations}
 use Rattle.neldermead_theory.specs.Ties.{ZeroFrom}
 use Rattle.neldermead_theory.specs.Follows.{EveryPoint}
-use Rattle.optim.specs.declared.Record.{Record}
-use Rattle.optim.specs.Record.{blankOf, validOf}
-use Rattle.optim.specs.Answer.{refusedOf, answerOf}
+use Rattle.records.specs.declared.Record.{Record}
+use Rattle.records.specs.Record.{blankOf, validOf}
+use Rattle.stands.specs.Standing.{refusedOf}
+use Rattle.optim.specs.Answer.{answerOf}
 use Rattle.optim.specs.Start.{simplexOf}
 
 -- an allowance that is given or absent, as the code has it

@@ -10,9 +10,10 @@ use Rattle.protocol.specs.declared.SimplexOptions.{SimplexOptions}
 use Rattle.protocol.specs.declared.Allowances.{Allowances}
 use Rattle.protocol.specs.declared.WolfeOptions.{WolfeOptions}
 use Rattle.protocol.specs.Protocol.{Reply, ask, ended, refused}
-use Rattle.optim.specs.declared.Record.{Record}
-use Rattle.optim.specs.Record.{validOf}
-use Rattle.optim.specs.Answer.{standingOf, repeatsOf, answerOf}
+use Rattle.records.specs.declared.Record.{Record}
+use Rattle.records.specs.Record.{validOf}
+use Rattle.stands.specs.Standing.{standingOf}
+use Rattle.optim.specs.Answer.{repeatsOf, answerOf}
 use Rattle.optim.specs.Start.{differencesOf, simplexOf, searchOf}
 
 -- a question, an outcome, or one of 01's refusals 1 to 20
