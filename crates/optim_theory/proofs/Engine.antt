@@ -15,12 +15,14 @@ use Rattle.protocol.proofs.Places.{places-follow}
 use Rattle.protocol.proofs.Follow.{alike, claim-follows}
 use Rattle.neldermead_theory.specs.Algorithm.{nelderMead}
 use Rattle.neldermead_theory.specs.Phases.{simplexSteps}
-use Rattle.neldermead_theory.specs.Laws.{gradientless}
+use Rattle.quasinewton_theory.specs.Algorithm.{quasiNewton}
+use Rattle.fits_theory.specs.Fits.{allFits}
 use Rattle.neldermead_theory.proofs.Phases.{simplex-steps}
 use Rattle.neldermead_theory.proofs.Claim.{claim, at-most}
 use Rattle.records.specs.declared.Record.{Record}
 use Rattle.optim_theory.specs.Engine.{startCode, answerCode, code, CodeClaim, CodeAtMost, InRange, Zeros, AsAlgorithm}
-use Rattle.optim_theory.proofs.EngineRelated.{noPlaces, no-places-laws, allFits, allSteps, Place, Relates}
+use Rattle.optim_theory.proofs.EngineRelated.{gradientSteps, allSteps, Place, Relates}
+use Rattle.optim_theory.proofs.Textual.{textual-laws}
 use Rattle.optim_theory.proofs.EngineAnswers.{answers, valid-of}
 use Rattle.optim_theory.proofs.EngineStarts.{starts}
 
@@ -36,7 +38,7 @@ code-follows =
     }
 
 laws : StepsLaws allFits allSteps
-laws = fits-steps-laws nelderMead gradientless simplexSteps noPlaces simplex-steps no-places-laws
+laws = fits-steps-laws nelderMead quasiNewton simplexSteps gradientSteps simplex-steps (textual-laws quasiNewton)
 
 texts-follow : Follows (Placed Place) (Kept (allFits .Position)) (startAt allFits allSteps) (answerAt allFits allSteps) (engine allFits .start) (engine allFits .answer)
 texts-follow = places-follow allFits allSteps laws

@@ -28,6 +28,7 @@ use Rattle.protocol.specs.Places.{ends, Placed, putTurn, mapTurn, startAt}
 use Rattle.neldermead_theory.specs.Algorithm.{nowhere, tolerance, positiveFinite}
 use Rattle.neldermead_theory.specs.Phases.{Move, buildAt, openingMove}
 use Rattle.neldermead_theory.specs.Follows.{RelatedMove, Allows}
+use Rattle.fits_theory.specs.Fits.{allFits}
 use Rattle.neldermead_theory.proofs.Follows.{simplex-follows}
 use Rattle.records.specs.declared.Record.{Record}
 use Rattle.records.specs.Record.{mostAllowed, blankOf, fixedOf}
@@ -37,7 +38,7 @@ use Rattle.optim.specs.Start.{simplexOf}
 use Rattle.optim_theory.specs.Engine.{allowance, allowances, startCode}
 use Rattle.optim_theory.proofs.Replies.{stands-keeps}
 use Rattle.optim_theory.proofs.EngineBounded.{start-within, opening-keeps}
-use Rattle.optim_theory.proofs.EngineRelated.{allFits, allSteps, Place, putMove, Sound, Relates, put-related}
+use Rattle.optim_theory.proofs.EngineRelated.{allSteps, Place, putMove, Sound, Relates, put-related}
 
 -- the same reply, and records that are tied unless it is a refusal
 abbrev Begun : Reply × Record → Reply × Placed Place → Type 0

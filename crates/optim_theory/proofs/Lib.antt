@@ -1,8 +1,13 @@
+pub mod Refusals
+pub mod Textual
 pub mod Replies
 pub mod Follows
 pub mod EngineBounded
 pub mod EngineRelated
 pub mod EngineAnswers
+pub mod DescentRelated
+pub mod DescentBounds
+pub mod DescentMoves
 pub mod EngineStarts
 pub mod Engine
 pub mod SearchRelated

@@ -17,6 +17,7 @@ use Rattle.objective.specs.declared.Differences.{Differences}
 use Rattle.objective.specs.Step as objective
 use Rattle.linesearch.specs.declared.Evaluation.{Evaluation}
 use Rattle.linesearch.specs.declared.Line.{Line}
+use Rattle.linesearch.specs.declared.Search.{Search}
 use Rattle.linesearch.specs.Trials.{one}
 use Rattle.linesearch.specs.Start.{lineFromOf, optionsRefusalOf, countsRefusalOf, lineRefusalOf}
 use Rattle.linesearch.specs.Step as linesearch
@@ -26,12 +27,12 @@ use Rattle.quasinewton.specs.declared.Fixed.{Fixed}
 use Rattle.quasinewton.specs.declared.Descent.{Descent}
 use Rattle.quasinewton.specs.declared.Moved.{Moved}
 use Rattle.quasinewton.specs.Step as step
-use Rattle.quasinewton.specs.Step.{firstValue, firstDifferences, searching, byRefusal, smallDecreaseOf, smallStepOf, initialStepOf, notDescendingOf, refusedBy, withLine, valuedAt, moved, soughtOf, searchedOf, steepestOf, directedOf, headedOf, lowerOf, missedOf, steppedOf, storedOf, succeededOf, settledOf, gradedOf, differingOf, valuedOf, toldOf, toldGradientOf, startOf}
+use Rattle.quasinewton.specs.Step.{firstValue, firstDifferences, searching, byRefusal, smallDecreaseOf, smallStepOf, initialStepOf, notDescendingOf, refusedBy, withLine, withSearch, valuedAt, moved, soughtOf, searchedOf, steepestOf, directedOf, headedOf, lowerOf, missedOf, steppedOf, storedOf, succeededOf, settledOf, gradedOf, differingOf, valuedOf, toldOf, toldGradientOf, startOf}
 use Rattle.records.specs.Record.{knownRefusalOf, validEndingOf}
 
 -- a refusal that ended the fit is one of those
-abbrev pub Named : Descent → Type 0
-Named q = validEndingOf q ≡ true
+pub record Named (q : Descent) : Type 0 where
+  pub ending : validEndingOf q ≡ true
 
 -- ---- the tests of a search
 
@@ -82,47 +83,52 @@ refuses q w why k h = go (eqb (why .number) 0) refl
   where
     go : (b : Bool) → eqb (why .number) 0 ≡ b → Named (cond (not b) (refusedBy q why) w)
     go true e = h
-    go false e = k .met e
+    go false e = record { ending = k .met e }
+
+-- a search that goes on has no refusal of its own
+pub searched-named : (q : Descent) (s : Search) → Named q → Named (withSearch q s)
+unfolding validEndingOf
+searched-named q s h = record { ending = h .ending }
 
 pub start-named : (x : List Float) → Named (startOf x)
 unfolding startOf validEndingOf
-start-named x = refl
+start-named x = record { ending = refl }
 
 module _ (fixed : Fixed) where
   abbrev n : ℕ
   n = fixed .n
 
-  searched-named : (q : Descent) (d : List Float) → Named (searchedOf fixed q d)
+  sought-named : (q : Descent) (d : List Float) → Named (searchedOf fixed q d)
   unfolding searchedOf soughtOf validEndingOf
-  searched-named q d =
+  sought-named q d =
       let a = initialStepOf (q .first) d n in
       let l = lineFromOf (q .line .x) d (q .line .f) (q .line .g) n in
       refuses q _ (optionsRefusalOf (fixed .options .wolfe)) (options-known (fixed .options .wolfe))
-      (refuses q _ (countsRefusalOf n n n) (counts-known n n n) (refuses q (soughtOf fixed q l a) (lineRefusalOf n l a) (line-known n l a) refl))
+      (refuses q _ (countsRefusalOf n n n) (counts-known n n n) (refuses q (soughtOf fixed q l a) (lineRefusalOf n l a) (line-known n l a) (record { ending = refl })))
 
   steepest-named : (q : Descent) → Named (steepestOf fixed q)
   unfolding steepestOf validEndingOf
-  steepest-named q = both (notDescendingOf (neg (dotOf (q .line .g) (q .line .g) n))) refl (searched-named q (negationOf (q .line .g) n))
+  steepest-named q = both (notDescendingOf (neg (dotOf (q .line .g) (q .line .g) n))) (record { ending = refl }) (sought-named q (negationOf (q .line .g) n))
 
   directed-named : (q : Descent) (d : List Float) → Named (directedOf fixed q d)
   unfolding directedOf
-  directed-named q d = both (notDescendingOf (dotOf (q .line .g) d n)) (steepest-named q) (both (not (allFiniteOf d n)) (steepest-named q) (searched-named q d))
+  directed-named q d = both (notDescendingOf (dotOf (q .line .g) d n)) (steepest-named q) (both (not (allFiniteOf d n)) (steepest-named q) (sought-named q d))
 
   headed-named : (q : Descent) (m : Model) (v : ℕ) → Named (headedOf fixed q m v)
   unfolding headedOf validEndingOf
   headed-named q m v =
-      both (le (infNormOf (q .line .g) n) (fixed .options .gradtol)) refl
-      (both (leb (fixed .iter) (q .rounds)) refl (both (leb (fixed .fevals) v) refl (directed-named (step.iterated q) (directionOf m (q .line .g) n))))
+      both (le (infNormOf (q .line .g) n) (fixed .options .gradtol)) (record { ending = refl })
+      (both (leb (fixed .iter) (q .rounds)) (record { ending = refl }) (both (leb (fixed .fevals) v) (record { ending = refl }) (directed-named (step.iterated q) (directionOf m (q .line .g) n))))
 
   -- ---- after a search
 
   lower-named : (q : Descent) (why : ℕ) (t : Evaluation) → (why ≡ byRefusal → ⊥) → Named (lowerOf q why t)
   unfolding lowerOf validEndingOf
-  lower-named q why t h = both (lt (t .trial .value) (q .line .f)) (rw (ne-eqb why byRefusal h)) (rw (ne-eqb why byRefusal h))
+  lower-named q why t h = both (lt (t .trial .value) (q .line .f)) (record { ending = rw (ne-eqb why byRefusal h) }) (record { ending = rw (ne-eqb why byRefusal h) })
 
   missed-named : (q : Descent) (t : Evaluation) → Named (missedOf q t)
   unfolding missedOf validEndingOf
-  missed-named q t = both (lt plusZero (t .trial .step)) (lower-named q step.bySearch t (λ e. omega arith)) refl
+  missed-named q t = both (lt plusZero (t .trial .step)) (lower-named q step.bySearch t (λ e. omega arith)) (record { ending = refl })
 
   record NamedMoved (w : Moved) : Type 0 where
     named : Named (w .descent)
@@ -136,8 +142,8 @@ module _ (fixed : Fixed) where
   succeeded-named q m t v =
       let o = fixed .options in
       both-moved (not (allFiniteOf (t .g) n)) (record { named = lower-named q step.byGradientFailed t (λ e. omega arith) })
-      (both-moved (smallDecreaseOf (o .ftol) (q .line .f) (t .trial .value)) (record { named = refl })
-      (both-moved (smallStepOf (o .xtol) (q .line .x) (t .x) n) (record { named = refl }) (record { named = headed-named (steppedOf q t) (storedOf fixed q m t) v })))
+      (both-moved (smallDecreaseOf (o .ftol) (q .line .f) (t .trial .value)) (record { named = record { ending = refl } })
+      (both-moved (smallStepOf (o .xtol) (q .line .x) (t .x) n) (record { named = record { ending = refl } }) (record { named = headed-named (steppedOf q t) (storedOf fixed q m t) v })))
 
   pub settled-named : (q : Descent) (m : Model) (v : ℕ) → Named q → Named (settledOf fixed q m v .descent)
   unfolding settledOf
@@ -147,7 +153,6 @@ module _ (fixed : Fixed) where
       t = q .search .best
 
       made : NamedMoved (settledOf fixed q m v)
-      unfolding settledOf
       made =
           both-moved (eqb (q .phase) step.atHead) (record { named = headed-named q m v })
           (both-moved (not (eqb (q .phase) searching)) (record { named = h })
@@ -158,24 +163,25 @@ module _ (fixed : Fixed) where
 
   graded-named : (q : Descent) (g : List Float) → Named (gradedOf fixed q g)
   unfolding gradedOf validEndingOf knownRefusalOf
-  graded-named q g = both (not (allFiniteOf g n)) refl refl
+  graded-named q g = both (not (allFiniteOf g n)) (record { ending = refl }) (record { ending = refl })
 
   differing-named : (q : Descent) (e : Differences) → Named (differingOf fixed q e)
   unfolding differingOf validEndingOf
-  differing-named q e = both (ltb (e .at) n) refl (graded-named q (e .g))
+  differing-named q e = both (ltb (e .at) n) (record { ending = refl }) (graded-named q (e .g))
 
   valued-named : (q : Descent) (v : Float) → Named (valuedOf fixed q v)
   unfolding valuedOf validEndingOf knownRefusalOf
   valued-named q v =
-      both (not (finiteOf v)) refl (both (fixed .options .gradients) refl (differing-named (withLine q step.firstGradient (valuedAt q (q .line .x) v)) (objective.begunOf (q .line .x))))
+      both (not (finiteOf v)) (record { ending = refl })
+      (both (fixed .options .gradients) (record { ending = refl }) (differing-named (withLine q step.firstGradient (valuedAt q (q .line .x) v)) (objective.begunOf (q .line .x))))
 
   pub told-named : (q : Descent) (v : Float) → Named q → Named (toldOf fixed q v)
   unfolding toldOf validEndingOf
   told-named q v h =
-      both (eqb (q .phase) searching) h
+      both (eqb (q .phase) searching) (record { ending = h .ending })
       (both (eqb (q .phase) firstValue) (valued-named q v)
       (both (not (eqb (q .phase) firstDifferences)) h (both (ltb (q .diff .at) n) (differing-named q (objective.toldOf (q .diff) v)) h)))
 
   pub told-gradient-named : (q : Descent) (g : List Float) → Named q → Named (toldGradientOf fixed q g)
   unfolding toldGradientOf validEndingOf
-  told-gradient-named q g h = both (eqb (q .phase) searching) h (both (eqb (q .phase) step.firstGradient) (graded-named q g) h)
+  told-gradient-named q g h = both (eqb (q .phase) searching) (record { ending = h .ending }) (both (eqb (q .phase) step.firstGradient) (graded-named q g) h)
