@@ -32,7 +32,7 @@ use Rattle.optim_theory.proofs.EngineRelated.{gradientSteps, allSteps, 
 -- ---- tests of an answer
 
 -- a repeat carries the number last accepted
-repeats-as : (k n : ℕ) → repeatsOf k n ≡ not (eqb k 0) && eqb n k
+pub repeats-as : (k n : ℕ) → repeatsOf k n ≡ not (eqb k 0) && eqb n k
 unfolding repeatsOf
 repeats-as k n = go (eqb k 0)
   where
