@@ -1,5 +1,6 @@
 pub mod Refusals
 pub mod Replies
+pub mod RepliesStarts
 pub mod Follows
 pub mod Textual
 pub mod EngineBounded
