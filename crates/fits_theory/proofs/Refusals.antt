@@ -17,7 +17,7 @@ use Rattle.protocol.proofs.Texts.{wp-bind, wp-map}
 use Rattle.protocol.proofs.Verdicts.{stop≢restart, go-on≢restart, restart-inj}
 use Rattle.neldermead_theory.specs.Algorithm.{nelderMead}
 use Rattle.neldermead_theory.proofs.Laws.{laws as simplex-laws}
-use Rattle.quasinewton_theory.specs.Algorithm.{quasiNewton, withValue, opening}
+use Rattle.quasinewton_theory.specs.Algorithm.{begunWith, quasiNewton, withValue, opening}
 use Rattle.quasinewton_theory.specs.Laws.{AtHead, RoundEnds, OpeningEnds}
 use Rattle.quasinewton_theory.proofs.Laws.{opening-case, no-restart, heads}
 use Rattle.fits_theory.specs.Refusals.{EndsBy, OpensBy, FailsLaws}
@@ -134,8 +134,8 @@ module _ (limits : Bool) (o : GradientOptions) (j : Job) (head : (es : List Exch
 
 opening-law : (j : Job) (x : List Float) → OpensBy allFits EndedBy Head j (openingOf nelderMead quasiNewton j x)
 opening-law (simplex o) x = simplex-opens o x
-opening-law (bfgs o) x = gradient-opens false o (bfgs o) (λ es p a. a) (λ k d h. h) x
-opening-law (lbfgs o) x = gradient-opens true o (lbfgs o) (λ es p a. a) (λ k d h. h) x
+opening-law (bfgs o) x = gradient-opens false (begunWith false o) (bfgs o) (λ es p a. a) (λ k d h. h) x
+opening-law (lbfgs o) x = gradient-opens true (begunWith true o) (lbfgs o) (λ es p a. a) (λ k d h. h) x
 
 restart-law : (j : Job) (es : List Exchange) (p : Position) (m : Ask (Ending Position)) → Head j es p → testsOf nelderMead quasiNewton p ≡ restart m → Begins m × wp es m (By j)
 restart-law (simplex o) es (inl p) m a e =

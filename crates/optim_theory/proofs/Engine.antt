@@ -1,100 +1,128 @@
--- The code's engine follows the places of Nelder and Mead's text, and so replies as it does (`as-algorithm`), has the mission's 3 (`code-claim`), its bounds (`code-at-most`), and records in range (`in-range`)
--- with zeros past n (`zeros`). Assumes nothing.
+-- The code's engine follows the texts of all three fits, and so replies as they do (`as-algorithm`), has the mission's 3 (`code-claim`) and their bounds
+-- (`code-at-most`). Assumes nothing.
 use Prim.Native.Nat.{ℕ, _≤_}
 use mathlib.Core.Path.{_≡_, sym, _∙_, subst}
-use mathlib.Core.Bool.{Bool, true, false}
-use mathlib.Core.List.{List, [], _∷_}
+use mathlib.Core.Logic.{_⊎_, inl, inr}
+use mathlib.Core.List.{List}
+use mathlib.Core.Option.{Option}
 use lib.ListN.{length}
-use Rattle.protocol.specs.Protocol.{Question, Answer, Fit}
-use Rattle.protocol.specs.Claim.{accepted, GivenF64s, Dialogue, given, give, giveAll, begin, run, NotRefused, Started, Claim}
-use Rattle.protocol.specs.Rounds.{Kept, engine}
-use Rattle.protocol.specs.Places.{StepsLaws, Placed, startAt, answerAt, engineOfPlaces}
+use lib.Ieee.{Float}
+use Rattle.protocol.specs.Protocol.{Question, Answer, Job, simplex, bfgs, lbfgs, Fit}
+use Rattle.protocol.specs.Claim.{F64s, GivenF64s, run, NotRefused, Started}
+use Rattle.protocol.specs.Rounds.{Kept}
+use Rattle.protocol.specs.Bounds.{questionsOf}
+use Rattle.protocol.specs.Places.{StepsLaws, Placed, startAt, answerAt}
 use Rattle.protocol.specs.Follow.{Follows}
 use Rattle.protocol.proofs.FitsPlaces.{fits-steps-laws}
 use Rattle.protocol.proofs.Places.{places-follow}
 use Rattle.protocol.proofs.Follow.{alike, claim-follows}
 use Rattle.neldermead_theory.specs.Algorithm.{nelderMead}
 use Rattle.neldermead_theory.specs.Phases.{simplexSteps}
-use Rattle.neldermead_theory.specs.Laws.{gradientless}
 use Rattle.neldermead_theory.proofs.Phases.{simplex-steps}
-use Rattle.neldermead_theory.proofs.Claim.{claim, at-most}
-use Rattle.optim.specs.declared.Record.{Record}
-use Rattle.optim_theory.specs.Engine.{startCode, answerCode, code, CodeClaim, CodeAtMost, InRange, Zeros, AsAlgorithm}
-use Rattle.optim_theory.proofs.EngineRelated.{noPlaces, no-places-laws, allFits, allSteps, Place, Relates}
-use Rattle.optim_theory.proofs.EngineAnswers.{answers, valid-of}
-use Rattle.optim_theory.proofs.EngineStarts.{starts}
+use Rattle.quasinewton_theory.specs.Algorithm.{quasiNewton}
+use Rattle.fits_theory.specs.Fits.{allFits, reference}
+use Rattle.fits_theory.proofs.Fits.{mission, fits-claim}
+use Rattle.records.specs.declared.Record.{Record}
+use Rattle.optim_theory.specs.Engine.{startCode, answerCode, code, CodeClaim, CodeAtMost, AsAlgorithm}
+use Rattle.optim_theory.proofs.Textual.{textual-laws}
+use Rattle.optim_theory.proofs.EngineRelated as simplexes
+use Rattle.optim_theory.proofs.EngineRelated.{gradientSteps, allSteps, Place}
+use Rattle.optim_theory.proofs.EngineAnswers as simplexAnswers
+use Rattle.optim_theory.proofs.EngineStarts.{simplex-starts}
+use Rattle.optim_theory.proofs.DescentAnswers as descents
+use Rattle.optim_theory.proofs.DescentStarts.{bfgs-starts, lbfgs-starts}
 
--- ---- the code follows the places, and they the texts
+-- ---- the code follows the texts: simplex fits by their places, gradient fits at once
 
-code-follows : Follows Record (Placed Place) startCode answerCode (startAt allFits allSteps) (answerAt allFits allSteps)
+abbrev Texts : Type 0
+Texts = Kept (allFits .Position)
+
+laws : StepsLaws allFits allSteps
+laws = fits-steps-laws nelderMead quasiNewton simplexSteps gradientSteps simplex-steps (textual-laws quasiNewton)
+
+places : Follows (Placed Place) Texts (startAt allFits allSteps) (answerAt allFits allSteps) (reference .start) (reference .answer)
+places = places-follow allFits allSteps laws
+
+-- a record of a simplex fit stands for the text that its place stands for
+record Simplex (r : Record) (k : Texts) : Type 0 where
+  place : Placed Place
+  relates : simplexes.Relates r place
+  stands : places .Related place k
+
+abbrev Relates : Record → Texts → Type 0
+Relates r k = Simplex r k ⊎ descents.Relates r k
+
+-- ---- answers
+
+abbrev Replied : Record → Texts → Answer → Type 0
+Replied r k a = (answerCode r a .0 ≡ reference .answer k a .0) × Relates (answerCode r a .1) (reference .answer k a .1) × (reference .answer k a .1 ≡ k → answerCode r a .1 ≡ r)
+
+simplex-answers : (r : Record) (k : Texts) (a : Answer) → F64s (a .words) → Simplex r k → Replied r k a
+simplex-answers r k a w S =
+    let t = simplexAnswers.answers r (S .place) a (S .relates) in
+    let u = places .answers (S .place) k a w (S .stands) in
+    (t .0 ∙ u .0, inl (record { place = answerAt allFits allSteps (S .place) a .1; relates = t .1; stands = u .1 }), λ e. t .2 (places .stays (S .place) k a w (S .stands) e))
+
+answers : (r : Record) (k : Texts) (a : Answer) → F64s (a .words) → Relates r k → Replied r k a
+answers r k a w (inl S) = simplex-answers r k a w S
+answers r k a w (inr D) = let t = descents.answers r k a D in (t .0, inr (t .1), t .2)
+
+-- ---- starts
+
+abbrev Begun : Fit → Type 0
+Begun f = (startCode f .0 ≡ reference .start f .0) × (NotRefused (startCode f .0) → Relates (startCode f .1) (reference .start f .1))
+
+by-job : (j : Job) (i e : Option ℕ) (x : List Float) → Begun (record { job = j; maxIter = i; maxFevals = e; x0 = x })
+by-job (simplex o) i e x =
+    let f : Fit = record { job = simplex o; maxIter = i; maxFevals = e; x0 = x } in
+    let t = simplex-starts o i e x in
+    let u = places .starts f in
+    (t .0 ∙ u .0, λ n. inl (record { place = startAt allFits allSteps f .1; relates = t .1 n; stands = u .1 (subst NotRefused (t .0) n) }))
+by-job (bfgs o) i e x = let t = bfgs-starts o i e x in (t .0, λ n. inr (t .1 n))
+by-job (lbfgs o) i e x = let t = lbfgs-starts o i e x in (t .0, λ n. inr (t .1 n))
+
+starts : (f : Fit) → Begun f
+starts f = by-job (f .job) (f .maxIter) (f .maxFevals) (f .x0)
+
+-- ---- the mission's 3
+
+code-follows : Follows Record Texts startCode answerCode (reference .start) (reference .answer)
 code-follows =
     record {
       Related = Relates;
       starts = starts;
-      answers = λ r s a w h. let t = answers r s a h in (t .0, t .1);
-      stays = λ r s a w h. answers r s a h .2;
+      answers = λ r k a w h. let t = answers r k a w h in (t .0, t .1);
+      stays = λ r k a w h. answers r k a w h .2;
     }
-
-laws : StepsLaws allFits allSteps
-laws = fits-steps-laws nelderMead gradientless simplexSteps noPlaces simplex-steps no-places-laws
-
-texts-follow : Follows (Placed Place) (Kept (allFits .Position)) (startAt allFits allSteps) (answerAt allFits allSteps) (engine allFits .start) (engine allFits .answer)
-texts-follow = places-follow allFits allSteps laws
-
-places-claim : Claim (engineOfPlaces allFits allSteps)
-places-claim =
-    claim-follows (Placed Place) (Kept (allFits .Position)) (startAt allFits allSteps) (answerAt allFits allSteps) (engine allFits .start) (engine allFits .answer) texts-follow claim
 
 pub code-claim : CodeClaim
-code-claim = claim-follows Record (Placed Place) startCode answerCode (startAt allFits allSteps) (answerAt allFits allSteps) code-follows places-claim
+code-claim = claim-follows Record Texts startCode answerCode (reference .start) (reference .answer) code-follows mission
 
--- ---- how many questions
+-- ---- the Algorithm's replies, and how many questions
 
--- a list puts the questions of the texts
-same-questions : (f : Fit) (l : List Answer) → Started code f → GivenF64s l → run code f l .questions ≡ run (engine allFits) f l .questions
-same-questions f l n w =
-    alike Record (Placed Place) startCode answerCode (startAt allFits allSteps) (answerAt allFits allSteps) code-follows f l n w .questions
-    ∙ alike (Placed Place) (Kept (allFits .Position)) (startAt allFits allSteps) (answerAt allFits allSteps) (engine allFits .start) (engine allFits .answer) texts-follow f l
-    (subst NotRefused (starts f .0) n) w .questions
-
-fewer : (f : Fit) (l : List Answer) (bound : ℕ) → Started code f → GivenF64s l → length (run (engine allFits) f l .questions) ≤ bound → length (run code f l .questions) ≤ bound
-fewer f l bound n w h = subst (λ (qs : List Question). length qs ≤ bound) (sym (same-questions f l n w)) h
-
-pub code-at-most : CodeAtMost
-code-at-most =
-    record {
-      by-fevals = λ f o M j m n l w. fewer f l _ n w (at-most .by-fevals f o M j m l);
-      by-iterations = λ f o I j i n l w. fewer f l _ n w (at-most .by-iterations f o I j i l);
-    }
+same-questions : (f : Fit) (l : List Answer) → Started code f → GivenF64s l → run code f l .questions ≡ run reference f l .questions
+same-questions f l n w = alike Record Texts startCode answerCode (reference .start) (reference .answer) code-follows f l n w .questions
 
 pub as-algorithm : AsAlgorithm
 as-algorithm =
     record {
-      start-reply = λ f. starts f .0 ∙ texts-follow .starts f .0;
+      start-reply = λ f. starts f .0;
       questions = same-questions;
-      replies = λ f l n w.
-          alike Record (Placed Place) startCode answerCode (startAt allFits allSteps) (answerAt allFits allSteps) code-follows f l n w .replies
-          ∙ alike (Placed Place) (Kept (allFits .Position)) (startAt allFits allSteps) (answerAt allFits allSteps) (engine allFits .start) (engine allFits .answer) texts-follow f l
-          (subst NotRefused (starts f .0) n) w .replies;
+      exchanges = λ f l n w. alike Record Texts startCode answerCode (reference .start) (reference .answer) code-follows f l n w .exchanges;
+      replies = λ f l n w. alike Record Texts startCode answerCode (reference .start) (reference .answer) code-follows f l n w .replies;
     }
 
--- ---- the records along a list
+-- a bound on the text's questions is one on the code's
+fewer : (f : Fit) (l : List Answer) (count : List Question → ℕ) (bound : ℕ) → Started code f → GivenF64s l → count (run reference f l .questions) ≤ bound → count (run code f l .questions) ≤ bound
+fewer f l count bound n w h = subst (λ (qs : List Question). count qs ≤ bound) (sym (same-questions f l n w)) h
 
--- accepted or not, the record is the one that came back
-given-on : (d : Dialogue Record) (a : Answer) (s : Placed Place) (b : Bool)
-    → Relates (answerCode (d .recordNow) a .1) s → Relates (given code d a b (answerCode (d .recordNow) a) .recordNow) s
-given-on d a s true h = h
-given-on d a s false h = h
-
-along : (d : Dialogue Record) (s : Placed Place) (l : List Answer) → Relates (d .recordNow) s → (t : Placed Place) × Relates (giveAll code d l .recordNow) t
-along d s [] h = (s, h)
-along d s (a ∷ l) h = along (give code d a) (answerAt allFits allSteps s a .1) l (given-on d a _ (accepted (d .standing) a) (answers (d .recordNow) s a h .1))
-
-reached : (f : Fit) (l : List Answer) → Started code f → (t : Placed Place) × Relates (run code f l .recordNow) t
-reached f l n = along (begin code f) (startAt allFits allSteps f .1) l (starts f .1 n)
-
-pub in-range : InRange
-in-range f l n = let t = reached f l n in valid-of (run code f l .recordNow) (t .0) (t .1)
-
-pub zeros : Zeros
-zeros f l n = reached f l n .1 .sound .zeros
+pub code-at-most : CodeAtMost
+code-at-most =
+    let S = fits-claim .simplex-questions in
+    let G = fits-claim .gradient-questions in
+    record {
+      by-fevals = λ f o M j m n l w. fewer f l length _ n w (S .by-fevals f o M j m l);
+      by-iterations = λ f o I j i n l w. fewer f l length _ n w (S .by-iterations f o I j i l);
+      with-gradients = λ κ f o I j e i n l w. fewer f l (questionsOf κ) _ n w (G .with-gradients κ f o I j e i l);
+      without-gradients = λ f o I j e i n l w. fewer f l length _ n w (G .without-gradients f o I j e i l);
+    }

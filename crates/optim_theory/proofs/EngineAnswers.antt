@@ -14,23 +14,25 @@ use Rattle.vector.specs.Points.{fromSliceOf}
 use Rattle.protocol.specs.Protocol.{Answer, Reply, refused, readOf}
 use Rattle.protocol.specs.Rounds.{Limits}
 use Rattle.protocol.specs.Places.{still, Held, at, closed, Placed, placed, putTurn, standingAt, acceptAt, freshAt, answerAt, Turns}
-use Rattle.neldermead_theory.specs.Laws.{gradientless}
+use Rattle.quasinewton_theory.specs.Algorithm.{quasiNewton}
+use Rattle.fits_theory.specs.Fits.{allFits}
 use Rattle.neldermead_theory.specs.Phases.{Phase, stepOf}
 use Rattle.neldermead.specs.Step.{toldOf}
 use Rattle.neldermead_theory.specs.Follows.{Related, RelatedMove, settledMove, Allows}
 use Rattle.neldermead_theory.proofs.Follows.{simplex-follows, settles-as-fits}
-use Rattle.optim.specs.declared.Record.{Record}
-use Rattle.optim.specs.Record.{simplexMark, searchMark, most, lastAsking, fixedOf, validOf}
-use Rattle.optim.specs.Answer.{overOf, gradientDueOf, standingOf, repeatsOf, valuedOf, steppedOf, takenOf, takenGradientOf, suitsOf, heardOf, answerOf}
+use Rattle.records.specs.declared.Record.{Record}
+use Rattle.records.specs.Record.{simplexMark, searchMark, most, lastAsking, fixedOf, gradientJobOf, validOf}
+use Rattle.stands.specs.Standing.{overOf, gradientDueOf, standingOf}
+use Rattle.optim.specs.Answer.{repeatsOf, valuedOf, steppedOf, takenOf, takenGradientOf, suitsOf, heardOf, answerOf}
 use Rattle.optim_theory.specs.Engine.{answerCode}
 use Rattle.optim_theory.proofs.Replies.{stands-keeps}
 use Rattle.optim_theory.proofs.EngineBounded.{told-within, step-keeps}
-use Rattle.optim_theory.proofs.EngineRelated.{noPlaces, allFits, allSteps, Place, putMove, Sound, Left, HeldBy, Relates, bound-low, mark-asks, valid, put-related}
+use Rattle.optim_theory.proofs.EngineRelated.{gradientSteps, allSteps, Place, putMove, Sound, Left, HeldBy, Relates, bound-low, mark-asks, valid, put-related}
 
 -- ---- tests of an answer
 
 -- a repeat carries the number last accepted
-repeats-as : (k n : ℕ) → repeatsOf k n ≡ not (eqb k 0) && eqb n k
+pub repeats-as : (k n : ℕ) → repeatsOf k n ≡ not (eqb k 0) && eqb n k
 unfolding repeatsOf
 repeats-as k n = go (eqb k 0)
   where
@@ -40,8 +42,11 @@ repeats-as k n = go (eqb k 0)
 
 -- a simplex fit asks for no gradient
 no-gradient-due : (r : Record) → r .job ≡ simplexMark → gradientDueOf r ≡ false
-unfolding gradientDueOf
-no-gradient-due r e = rw (ne-eqb (r .job) searchMark (λ f. omega arith))
+unfolding gradientDueOf gradientJobOf
+no-gradient-due r e = rw (ne-eqb (r .job) searchMark (λ f. omega arith), no-job (r .job) e)
+  where
+    no-job : (k : ℕ) → k ≡ simplexMark → gradientJobOf k ≡ false
+    no-job k i = rw i
 
 -- the letter and the length
 suits-as : (r : Record) (k n : ℕ) → r .job ≡ simplexMark → not (suitsOf r k n) ≡ not (eqb k 86 && eqb n 1)
@@ -56,7 +61,7 @@ suits-as r k n e = rw (no-gradient-due r e) (go (eqb k 86))
 
 -- the record after the value v
 abbrev next : Record → Float → Record
-next r v = valuedOf r (r .diff) (toldOf (fixedOf r) (r .simplex) (readOf v) (r .counts .fevals + 1)) (r .descent .search)
+next r v = valuedOf r (r .diff) (toldOf (fixedOf r) (r .simplex) (readOf v) (r .counts .fevals + 1)) (r .descent) (r .model)
 
 stepped : (r : Record) (v : Float) → r .job ≡ simplexMark → steppedOf r v ≡ next r v
 unfolding steppedOf
@@ -108,7 +113,7 @@ module _ (r : Record) (l : Limits) (A : Allows (fixedOf r) l) (x : List Float) (
     accepted-as =
         rw (sym (add-one (r .accepted)))
         (ap (λ (t : Turns allFits allSteps). putTurn allFits allSteps l (r .accepted + 1) (r .accepted + 1) 0 t)
-        (settles-as-fits gradientless noPlaces l (r .accepted + 1) (stepOf ph (a .words))))
+        (settles-as-fits quasiNewton gradientSteps l (r .accepted + 1) (stepOf ph (a .words))))
 
   -- ---- any answer
 

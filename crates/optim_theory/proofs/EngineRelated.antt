@@ -15,48 +15,34 @@ use lib.Ieee.{Float}
 use Rattle.protocol.specs.declared.SimplexOptions.{SimplexOptions}
 use Rattle.protocol.specs.declared.Termination.{Termination}
 use Rattle.protocol.specs.declared.Termination.the-variants.{GradientTolerance, SimplexTolerance, StepTolerance, FunctionTolerance, MaxIterations, MaxFevals, LineSearchFailed, GradientFailed, ObjectiveResolution}
-use Rattle.protocol.specs.Protocol.{converges, Result, fitted, Reply, ask, ended, refused, Job}
-use Rattle.protocol.specs.Rounds.{atHead, stops, fails, Rounds, Limits, resultAt, questionAt}
-use Rattle.protocol.specs.Fits.{fits}
-use Rattle.protocol.specs.Places.{still, ends, Steps, StepsLaws, Held, at, closed, Placed, placed, putTurn, mapTurn, Places, fitsSteps}
+use Rattle.protocol.specs.Protocol.{converges, Result, fitted, Reply, ask, ended, refused}
+use Rattle.protocol.specs.Rounds.{atHead, stops, fails, Limits, resultAt, questionAt}
+use Rattle.protocol.specs.Places.{still, ends, Steps, Held, at, closed, Placed, placed, putTurn, mapTurn, Places, fitsSteps}
 use Rattle.neldermead_theory.specs.Algorithm.{Position, nelderMead}
-use Rattle.neldermead_theory.specs.Laws.{gradientless}
+use Rattle.quasinewton_theory.specs.Algorithm.{quasiNewton}
+use Rattle.fits_theory.specs.Fits.{allFits}
 use Rattle.neldermead_theory.specs.Phases.{Phase, building, reflecting, expanding, outside, inside, shrinking, pointOf, Move, simplexSteps}
 use Rattle.neldermead.specs.Step.{byTolerance, byResolution, byIterations, byFevals as usedUp, notFinite}
 use Rattle.neldermead_theory.specs.Counts.{byFevals}
 use Rattle.neldermead_theory.specs.Ties.{lowered, ZeroFrom}
 use Rattle.neldermead_theory.specs.Follows.{EveryPoint, Shaped, markOf, Related, Stopped, RelatedMove, Allows}
-use Rattle.optim.specs.declared.Record.{Record}
-use Rattle.optim.specs.Record.{simplexMark, most, mostAllowed, mostRestarts, lastAsking, lastPhase, fixedOf, validSimplexOf, validOf}
-use Rattle.optim.specs.Answer.{terminationOf, resultOf, standingSimplexOf, standingOf}
+use Rattle.records.specs.declared.Record.{Record}
+use Rattle.records.specs.Record.{simplexMark, most, mostAllowed, mostRestarts, lastAsking, lastPhase, fixedOf, validSimplexOf, validOf}
+use Rattle.stands.specs.Standing.{terminationOf, resultOf, standingSimplexOf, standingOf}
+use Rattle.optim_theory.proofs.Textual.{textual}
 use Rattle.optim_theory.proofs.EngineBounded.{Within, Budget}
 
 -- ---- the engine that is followed
 
--- the gradient fits that are not there have no place
-abbrev pub noPlaces : Steps gradientless
-noPlaces =
-    record {
-      Place = ⊥;
-      kind = λ s. absurd s;
-      point = λ s. absurd s;
-      step = λ s w. absurd s;
-      opening = λ j x. ends (fails 2 0);
-      again = λ p. absurd p;
-      round = λ p. absurd p;
-    }
-
-pub no-places-laws : StepsLaws gradientless noPlaces
-no-places-laws = record { toDo = λ s. absurd s; follows = λ s. absurd s; opens = λ j x. refl; restarts = λ p m e. absurd p; rounds = λ p. absurd p }
-
-abbrev pub allFits : Rounds Job
-allFits = fits nelderMead gradientless
+-- the gradient fits' places are their texts
+abbrev pub gradientSteps : Steps quasiNewton
+gradientSteps = textual quasiNewton
 
 abbrev pub allSteps : Steps allFits
-allSteps = fitsSteps nelderMead gradientless simplexSteps noPlaces
+allSteps = fitsSteps nelderMead quasiNewton simplexSteps gradientSteps
 
 abbrev pub Place : Type 0
-Place = Places nelderMead gradientless simplexSteps noPlaces
+Place = Places nelderMead quasiNewton simplexSteps gradientSteps
 
 -- the reply and the record of a turn of the simplex, after n accepted answers, all of them values
 abbrev pub putMove : Limits → ℕ → Move → Reply × Placed Place

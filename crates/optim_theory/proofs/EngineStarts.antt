@@ -1,4 +1,4 @@
--- A start of the code gets the reply of the start of the places, and where it is not refused their records are tied: `starts`. Assumes nothing.
+-- A start of a simplex fit gets the reply of the start of the places, and where it is not refused their records are tied: `simplex-starts`. Assumes nothing.
 use Prim.Native.Nat.{ℕ, _+_, _*_, _≤_, zero-le}
 use native.Mathlib.Nat.{le-trans, mul-le-mul-left, mul-le-mul-right}
 use native.Mathlib.Omega.{arith}
@@ -20,26 +20,28 @@ use Rattle.vector.proofs.First.{point-laws, ties}
 use Rattle.vector.proofs.Stores.{first-whole}
 use Rattle.protocol.specs.declared.SimplexOptions.{SimplexOptions}
 use Rattle.protocol.specs.declared.Refusal.{Refusal}
-use Rattle.protocol.specs.Protocol.{refusal, Reply, Job, simplex, bfgs, lbfgs, Fit}
+use Rattle.protocol.specs.Protocol.{refusal, Reply, simplex, Fit}
 use Rattle.protocol.specs.Claim.{NotRefused, limit}
-use Rattle.protocol.specs.PastLimits.{excess, pastLimits}
+use Rattle.protocol.specs.PastLimits.{excess}
 use Rattle.protocol.specs.Rounds.{fails, Limits, limitsOf}
 use Rattle.protocol.specs.Places.{ends, Placed, putTurn, mapTurn, startAt}
 use Rattle.neldermead_theory.specs.Algorithm.{nowhere, tolerance, positiveFinite}
 use Rattle.neldermead_theory.specs.Phases.{Move, buildAt, openingMove}
 use Rattle.neldermead_theory.specs.Follows.{RelatedMove, Allows}
+use Rattle.fits_theory.specs.Fits.{allFits}
 use Rattle.neldermead_theory.proofs.Follows.{simplex-follows}
-use Rattle.optim.specs.declared.Record.{Record}
-use Rattle.optim.specs.Record.{mostAllowed, blankOf, fixedOf}
-use Rattle.optim.specs.Answer.{refusedOf, standingOf}
-use Rattle.optim.specs.Start.{excessOf, pastLimitsOf, startRefusalOf, limitOf, limitsOf as limitsFor, simplexRecordOf, simplexOf}
-use Rattle.optim_theory.specs.Engine.{allowance, allowances, startCode}
+use Rattle.records.specs.declared.Record.{Record}
+use Rattle.records.specs.Record.{mostAllowed, blankOf, fixedOf}
+use Rattle.stands.specs.Standing.{refusedOf, standingOf}
+use Rattle.starts.specs.Starts.{excessOf, pastLimitsOf, simplexRefusalOf, limitOf, simplexLimitsOf, simplexRecordOf}
+use Rattle.optim.specs.Start.{simplexOf}
+use Rattle.optim_theory.specs.Engine.{allowance, allowances}
 use Rattle.optim_theory.proofs.Replies.{stands-keeps}
 use Rattle.optim_theory.proofs.EngineBounded.{start-within, opening-keeps}
-use Rattle.optim_theory.proofs.EngineRelated.{allFits, allSteps, Place, putMove, Sound, Relates, put-related}
+use Rattle.optim_theory.proofs.EngineRelated.{allSteps, Place, putMove, Sound, Relates, put-related}
 
 -- the same reply, and records that are tied unless it is a refusal
-abbrev Begun : Reply × Record → Reply × Placed Place → Type 0
+abbrev pub Begun : Reply × Record → Reply × Placed Place → Type 0
 Begun y z = (y .0 ≡ z .0) × (NotRefused (y .0) → Relates (y .1) (z .1))
 
 -- ---- the tests of a start, one after another
@@ -92,16 +94,16 @@ positive-as : (t : Float) → not (positiveOf t) ≡ not (positiveFinite t)
 unfolding positiveOf
 positive-as t = ap not (both-tests (lt plusZero t) (finiteOf t))
 
-excess-as : (k : Option ℕ) → excessOf (allowance k) ≡ excess k
+pub excess-as : (k : Option ℕ) → excessOf (allowance k) ≡ excess k
 unfolding excessOf
 excess-as none = refl
 excess-as (some k) = refl
 
 -- the point of sixteen coordinates is the list
-whole : (x : List Float) → first (length x) (fromSliceOf x (length x)) ≡ x
+pub whole : (x : List Float) → first (length x) (fromSliceOf x (length x)) ≡ x
 whole x = ties .from-slice x (length x) ∙ first-whole x
 
-finite-as : (x : List Float) → allFiniteOf (fromSliceOf x (length x)) (length x) ≡ allFinite x
+pub finite-as : (x : List Float) → allFiniteOf (fromSliceOf x (length x)) (length x) ≡ allFinite x
 finite-as x = ties .all-finite (fromSliceOf x (length x)) (length x) ∙ ap allFinite (whole x)
 
 -- an allowance that is not refused, or its default, is low
@@ -135,7 +137,7 @@ module _ (o : SimplexOptions) (i e : Option ℕ) (x : List Float) where
   made = simplexRecordOf point n o (allowances fit)
 
   allows : Allows (fixedOf made) (limitsOf fit)
-  unfolding simplexRecordOf limitsFor limitOf
+  unfolding simplexRecordOf simplexLimitsOf limitOf
   allows = record { iter = given i; fevals = also e }
     where
       given : (k : Option ℕ) → limitsOf (record { job = simplex o; maxIter = k; maxFevals = e; x0 = x }) .iter ≡ limit (limitOf (allowance k) (200 * n * (1 + o .restarts)))
@@ -147,7 +149,7 @@ module _ (o : SimplexOptions) (i e : Option ℕ) (x : List Float) where
       also (some k) = refl
 
   made-sound : n ≤ 16 → 1 ≤ n → o .restarts ≤ 100 → excess i ≡ false → excess e ≡ false → Sound made
-  unfolding simplexRecordOf limitsFor fromSliceOf
+  unfolding simplexRecordOf simplexLimitsOf fromSliceOf
   made-sound small above few a b =
       record {
         job = refl;
@@ -173,8 +175,8 @@ module _ (o : SimplexOptions) (i e : Option ℕ) (x : List Float) where
       let t = put-related made S (limitsOf fit) allows x refl (buildAt (nowhere o x) x) moves (rw opened at b) in
       (t .0, λ m. subst (λ (z : Record). Relates z (putMove (limitsOf fit) 0 (buildAt (nowhere o x) x) .1)) (sym (stands-keeps made)) (t .1))
 
-  simplex-starts : Begun (simplexOf x o (allowances fit)) (startAt allFits allSteps fit)
-  unfolding simplexOf startRefusalOf pastLimitsOf
+  pub simplex-starts : Begun (simplexOf x o (allowances fit)) (startAt allFits allSteps fit)
+  unfolding simplexOf simplexRefusalOf pastLimitsOf
   simplex-starts =
       rw (excess-as i, excess-as e)
       (refuse-two l (ltb 16 n) (excess i) (excess e) (ltb 100 (o .restarts)) _ _ (openingMove o x)
@@ -194,19 +196,3 @@ module _ (o : SimplexOptions) (i e : Option ℕ) (x : List Float) where
 
       above : (k : ℕ) → (k ≡ 0 → ⊥) → 1 ≤ k
       above k d = omega arith
-
--- ---- every fit
-
--- a gradient fit is refused in both
-no-gradients : (l : Limits) (b : Bool) → Begun (refusedOf blankOf 2 0) (putTurn allFits allSteps l 0 0 0 (cond b (ends (fails 2 0)) (ends (fails 2 0))))
-no-gradients l true = (refl, λ n. absurd n)
-no-gradients l false = (refl, λ n. absurd n)
-
-by-job : (j : Job) (i e : Option ℕ) (x : List Float)
-    → Begun (startCode (record { job = j; maxIter = i; maxFevals = e; x0 = x })) (startAt allFits allSteps (record { job = j; maxIter = i; maxFevals = e; x0 = x }))
-by-job (simplex o) i e x = simplex-starts o i e x
-by-job (bfgs o) i e x = no-gradients _ (pastLimits (record { job = bfgs o; maxIter = i; maxFevals = e; x0 = x }))
-by-job (lbfgs o) i e x = no-gradients _ (pastLimits (record { job = lbfgs o; maxIter = i; maxFevals = e; x0 = x }))
-
-pub starts : (f : Fit) → Begun (startCode f) (startAt allFits allSteps f)
-starts f = by-job (f .job) (f .maxIter) (f .maxFevals) (f .x0)

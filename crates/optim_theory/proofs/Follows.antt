@@ -17,10 +17,12 @@ use Rattle.objective.specs.Algorithm.{differences}
 use Rattle.objective.specs.Step.{toldOf}
 use Rattle.objective.specs.Follows.{Sized}
 use Rattle.objective.proofs.Follows.{follows}
-use Rattle.optim.specs.declared.Record.{Record}
-use Rattle.optim.specs.Record.{Other}
-use Rattle.optim.specs.Answer.{standingDifferencesOf, standingOf, valuedOf, steppedOf, takenOf}
-use Rattle.optim.specs.Start.{begunRecordOf, differencesOf}
+use Rattle.records.specs.declared.Record.{Record}
+use Rattle.records.specs.Record.{gradientJobOf, Other}
+use Rattle.stands.specs.Standing.{standingDifferencesOf, standingOf}
+use Rattle.optim.specs.Answer.{valuedOf, steppedOf, takenOf}
+use Rattle.starts.specs.Starts.{begunRecordOf}
+use Rattle.optim.specs.Start.{differencesOf}
 use Rattle.optim_theory.specs.Jobs.{shown}
 use Rattle.optim_theory.specs.Follows.{asTold, differencesEnding, rest, after, JobFollows}
 
@@ -34,16 +36,16 @@ short r h d = less (r .diff .at) (r .n) (h .within) d
 -- what stands is what stands in differences
 stands : (r : Record) → Other r → Sized (r .n) (r .diff) → standingOf r .0 ≡ shown differencesEnding (r .accepted) (rest r)
 unfolding standingOf standingDifferencesOf
-stands r bare h = rw (ne-eqb _ _ (bare .0), ne-eqb _ _ (bare .1)) (at-end (eqb (r .diff .at) (r .n)) refl)
+stands r bare h = rw (ne-eqb _ _ (bare .simplex), ne-eqb _ _ (bare .search), bare .gradient) (at-end (eqb (r .diff .at) (r .n)) refl)
   where
     at-end : (b : Bool) → eqb (r .diff .at) (r .n) ≡ b → standingDifferencesOf r .0 ≡ shown differencesEnding (r .accepted) (rest r)
     at-end true e = rw e (sym (ap (shown differencesEnding (r .accepted)) (follows asTold .ends (r .n) (r .diff) (eqb-true _ _ e))))
     at-end false e = rw e (sym (ap (shown differencesEnding (r .accepted)) (follows asTold .follows (r .n) (r .diff) h (short r h (eqb-false _ _ e)))))
 
 -- the step is that of differences
-steps : (r : Record) (v : Float) → Other r → steppedOf r v ≡ valuedOf r (toldOf (r .diff) v) (r .simplex) (r .descent .search)
+steps : (r : Record) (v : Float) → Other r → steppedOf r v ≡ valuedOf r (toldOf (r .diff) v) (r .simplex) (r .descent) (r .model)
 unfolding steppedOf
-steps r v bare = rw (ne-eqb _ _ (bare .0), ne-eqb _ _ (bare .1))
+steps r v bare = rw (ne-eqb _ _ (bare .simplex), ne-eqb _ _ (bare .search), bare .gradient)
 
 takes : (r : Record) (v : Float) → Other r → Sized (r .n) (r .diff) → (r .diff .at ≡ r .n → ⊥) → rest (steppedOf r v) ≡ after (rest r) (v ∷ [])
 takes r v bare h d = ap rest (steps r v bare) ∙ sym (ap (λ (m : Ask (List Float)). after m (v ∷ [])) (follows asTold .follows (r .n) (r .diff) h (short r h d)))
@@ -60,8 +62,8 @@ stepped-sized : (r : Record) (v : Float) → Other r → Sized (r .n) (r .diff) 
 stepped-sized r v bare h d = subst (λ (q : Record). Sized (q .n) (q .diff)) (sym (steps r v bare)) (follows asTold .told-sized (r .n) (r .diff) v h (short r h d))
 
 begun-other : (x : List Float) → Other (begunRecordOf x)
-unfolding begunRecordOf
-begun-other x = (λ e. not-one e, λ e. not-four e)
+unfolding begunRecordOf gradientJobOf
+begun-other x = record { simplex = λ e. not-one e; search = λ e. not-four e; gradient = refl }
   where
     not-one : _≡_ {A = ℕ} 5 1 → ⊥
     not-one q = omega arith
@@ -70,7 +72,7 @@ begun-other x = (λ e. not-one e, λ e. not-four e)
     not-four q = omega arith
 
 stepped-other : (r : Record) (v : Float) → Other r → Other (steppedOf r v)
-stepped-other r v bare = subst Other (sym (steps r v bare)) bare
+stepped-other r v bare = subst Other (sym (steps r v bare)) (record { simplex = bare .simplex; search = bare .search; gradient = bare .gradient })
 
 starts : (x : List Float) → length x ≤ 16 → differencesOf x .0 ≡ shown differencesEnding 0 (differences asTold x)
 unfolding differencesOf begunRecordOf

@@ -19,8 +19,8 @@ use Rattle.protocol.specs.Follow.{Follows, Alike}
 use Rattle.protocol.proofs.Follow.{alike}
 use Rattle.linesearch_theory.specs.Algorithm.{Searched, refuses, gives, strongWolfe}
 use Rattle.linesearch_theory.specs.Counts.{perTrial}
-use Rattle.optim.specs.declared.Record.{Record}
-use Rattle.optim.specs.Record.{noOptions}
+use Rattle.records.specs.declared.Record.{Record}
+use Rattle.records.specs.Record.{noOptions}
 use Rattle.optim_theory.specs.Engine.{answerCode}
 use Rattle.optim_theory.specs.Jobs.{Text, begunBy, answerBy, jobOf}
 use Rattle.optim_theory.specs.Search.{Start, searchText, refusalOf, searchEnding, searchPastLimits, searchCode, codeRun, SearchFollowsText, SearchInRange, SearchZeros, SearchAtMost}

@@ -19,9 +19,10 @@ use Rattle.protocol.specs.Ask.{Ask, _>>=_}
 use Rattle.linesearch.specs.Step.{asksGradient, asksDifference, probeOf}
 use Rattle.linesearch_theory.specs.Algorithm.{Searched}
 use Rattle.linesearch_theory.specs.Follows.{kindOf, toDo, answered}
-use Rattle.optim.specs.declared.Record.{Record}
-use Rattle.optim.specs.Record.{searchFixedOf}
-use Rattle.optim.specs.Answer.{overOf, gradientDueOf, standingOf, repeatsOf, takenOf, takenGradientOf, suitsOf, heardOf, answerOf}
+use Rattle.records.specs.declared.Record.{Record}
+use Rattle.records.specs.Record.{searchFixedOf}
+use Rattle.stands.specs.Standing.{overOf, gradientDueOf, standingOf}
+use Rattle.optim.specs.Answer.{repeatsOf, takenOf, takenGradientOf, suitsOf, heardOf, answerOf}
 use Rattle.optim_theory.specs.Engine.{answerCode}
 use Rattle.optim_theory.specs.Follows.{asTold}
 use Rattle.optim_theory.specs.Jobs.{Text, lastOf, shown, acceptedBy, freshBy, answerBy}

@@ -27,10 +27,11 @@ use Rattle.linesearch_theory.specs.Algorithm.{WolfeResult, Searched, gives}
 use Rattle.linesearch_theory.specs.Counts.{perTrial}
 use Rattle.linesearch_theory.specs.Follows.{kindOf, ZeroFrom, LineHas, Shaped, ZeroPast, toDo, outcome, answered}
 use Rattle.linesearch_theory.proofs.Follows.{search-follows}
-use Rattle.quasinewton.specs.Step.{searching}
-use Rattle.optim.specs.declared.Record.{Record}
-use Rattle.optim.specs.Record.{simplexMark, searchMark, most, mostEvals, searchFixedOf, validSearchOf, validOf}
-use Rattle.optim.specs.Answer.{overOf, gradientDueOf, searchResultOf, standingSearchOf, standingOf, valuedOf, steppedOf, gradedOf}
+use Rattle.quasinewton.specs.Step.{searching, withSearch}
+use Rattle.records.specs.declared.Record.{Record}
+use Rattle.records.specs.Record.{simplexMark, searchMark, most, mostEvals, searchFixedOf, validSearchPartOf, validSearchOf, validOf}
+use Rattle.stands.specs.Standing.{overOf, gradientDueOf, searchResultOf, standingSearchOf, standingOf}
+use Rattle.optim.specs.Answer.{valuedOf, slopedOf, steppedOf, gradedOf}
 use Rattle.optim_theory.specs.Follows.{asTold}
 use Rattle.optim_theory.specs.Jobs.{Text, shown}
 use Rattle.optim_theory.specs.Search.{searchEnding}
@@ -97,7 +98,7 @@ module _ (r : Record) (S : Sound r) where
   count-low κ h = omega (arith, h .within, bound-low κ (r .gradient .gradients) (r .gradient .wolfe .evals) (r .n) (S .evals) (S .shape .small))
 
   pub valid : ((κ : Kind) → Within κ r) → validOf r ≡ true
-  unfolding validOf validSearchOf
+  unfolding validOf validSearchOf validSearchPartOf
   valid h =
       let v : r .counts .fevals ≤ 33000 = count-low Value (h Value) in
       let g : r .counts .gevals ≤ 33000 = count-low Gradient (h Gradient) in
@@ -173,7 +174,7 @@ abbrev pub next : Record → List Float → Record
 next r w = cond (gradientDueOf r) (gradedOf r (fromSliceOf w (r .n))) (steppedOf r (getD w 0 nan))
 
 module _ (r : Record) (S : Sound r) (stands-open : r .descent .search .phase ≤ asksDifference) (w : List Float) where
-  stepped : (v : Float) → steppedOf r v ≡ valuedOf r (r .diff) (r .simplex) (toldOf (fixed r S) (r .descent .line) (s r S) (readOf v) v)
+  stepped : (v : Float) → steppedOf r v ≡ valuedOf r (r .diff) (r .simplex) (withSearch (r .descent) (toldOf (fixed r S) (r .descent .line) (s r S) (readOf v) v)) (r .model)
   unfolding steppedOf
   stepped v = rw (ne-eqb (r .job) simplexMark (λ e. omega (arith, S .job)), eq-eqb (r .job) searchMark (S .job))
 
@@ -193,10 +194,15 @@ module _ (r : Record) (S : Sound r) (stands-open : r .descent .search .phase ≤
         zeros = search-follows asTold (fixed r S) (r .descent .line) .told-zeros (s r S) (readOf v) v (S .line-zeros) (S .shape) (S .zeros);
       })
 
+  graded : gradedOf r (fromSliceOf w (r .n)) ≡ slopedOf r (withSearch (r .descent) (toldGradientOf (fixed r S) (r .descent .line) (s r S) (fromSliceOf w (r .n)))) (r .model)
+  unfolding gradedOf
+  graded = rw (eq-eqb (r .job) searchMark (S .job))
+
   graded-sound : Sound (gradedOf r (fromSliceOf w (r .n)))
-  unfolding gradedOf fromSliceOf
+  unfolding fromSliceOf
   graded-sound =
-      record {
+      rw graded
+      (record {
         job = S .job;
         phase = S .phase;
         positive = S .positive;
@@ -207,7 +213,7 @@ module _ (r : Record) (S : Sound r) (stands-open : r .descent .search .phase ≤
         line-zeros = S .line-zeros;
         along-zeros = S .along-zeros;
         zeros = search-follows asTold (fixed r S) (r .descent .line) .told-gradient-zeros (s r S) _ (λ k. point-laws .past (at w) (r .n) k) (S .line-zeros) (S .shape) (S .zeros);
-      }
+      })
 
   -- it has the rest of the text to do, with one answer more
   abbrev counting : ℕ → ℕ → Ask Searched → Text Searched
@@ -232,7 +238,6 @@ module _ (r : Record) (S : Sound r) (stands-open : r .descent .search .phase ≤
     pub bound : (κ : Kind) → boundOf κ q ≡ boundOf κ r
 
   pub moves : Moved (next r w)
-  unfolding gradedOf
   moves = go (eqb (s r S .phase) asksGradient) refl
     where
       by-value : eqb (s r S .phase) asksGradient ≡ false → Moved (steppedOf r (getD w 0 nan))
@@ -249,9 +254,9 @@ module _ (r : Record) (S : Sound r) (stands-open : r .descent .search .phase ≤
       by-gradient e =
           record {
             sound = graded-sound;
-            text = ap (λ (v : ℕ). counting v (r .counts .gevals + 1) (rest-by true)) (sym (add-zero (r .counts .fevals))) ∙ ap after-by (sym e);
-            accepted = refl;
-            bound = λ κ. refl;
+            text = ap textOf graded ∙ ap (λ (v : ℕ). counting v (r .counts .gevals + 1) (rest-by true)) (sym (add-zero (r .counts .fevals))) ∙ ap after-by (sym e);
+            accepted = rw graded;
+            bound = λ κ. rw graded;
           }
 
       go : (b : Bool) → eqb (s r S .phase) asksGradient ≡ b → Moved (next r w)

@@ -34,10 +34,11 @@ use Rattle.linesearch_theory.specs.Counts.{perTrial}
 use Rattle.linesearch_theory.specs.Follows.{loweredLine, ZeroFrom, LineHas}
 use Rattle.linesearch_theory.proofs.Follows.{search-follows}
 use Rattle.linesearch_theory.proofs.Counts.{counts}
-use Rattle.optim.specs.declared.Record.{Record}
-use Rattle.optim.specs.Record.{mostEvals, blankOf}
-use Rattle.optim.specs.Answer.{refusedOf, standingOf}
-use Rattle.optim.specs.Start.{searchPastLimitsOf, searchRefusalOf, searchOptionsOf, begunSearchOf, searchRecordOf, searchOf}
+use Rattle.records.specs.declared.Record.{Record}
+use Rattle.records.specs.Record.{mostEvals, wolfeOptionsOf, blankOf}
+use Rattle.stands.specs.Standing.{refusedOf, standingOf}
+use Rattle.starts.specs.Starts.{searchPastLimitsOf, searchRefusalOf, begunSearchOf, searchRecordOf}
+use Rattle.optim.specs.Start.{searchOf}
 use Rattle.optim_theory.specs.Follows.{asTold}
 use Rattle.optim_theory.specs.Jobs.{shown}
 use Rattle.optim_theory.specs.Search.{Start, searchText, searchEnding, searchPastLimits, searchCode}
@@ -130,7 +131,7 @@ module _ (s : Start) where
 
   module _ (small : n ≤ 16) (evals : o .evals ≤ mostEvals) (positive : 0 < n) (along : length (s .d) ≡ n) (sloped : length (s .g) ≡ n) where
     made-sound : Sound made
-    unfolding searchRecordOf searchOptionsOf begunSearchOf lineFromOf fromSliceOf
+    unfolding searchRecordOf wolfeOptionsOf begunSearchOf lineFromOf fromSliceOf
     made-sound =
         let lengths : LineHas (λ x. length x ≡ 16) line = record { point = point-laws .width (at (s .x)) n small; gradient = point-laws .width (at (s .g)) n small } in
         let zeros : LineHas (ZeroFrom n) line = record { point = λ k. point-laws .past (at (s .x)) n k; gradient = λ k. point-laws .past (at (s .g)) n k } in
@@ -152,13 +153,13 @@ module _ (s : Start) where
     lowered = rw (whole (s .x) n refl, whole (s .d) n along, whole (s .g) n sloped, slope-as (s .g) (s .d) n sloped along)
 
     made-rest : restOf made ≡ body
-    unfolding searchRecordOf searchOptionsOf begunSearchOf
+    unfolding searchRecordOf wolfeOptionsOf begunSearchOf
     made-rest =
         ap (λ (m : Ask WolfeResult). m >>= finished)
         (sym (search-follows asTold fixed line .begins (s .step)) ∙ ap (λ (l : Line). search asTold (s .gradients) o l (s .step)) lowered)
 
     made-within : (κ : Kind) → Within κ made
-    unfolding searchRecordOf searchOptionsOf begunSearchOf
+    unfolding searchRecordOf wolfeOptionsOf begunSearchOf
     made-within κ =
         record {
           left = o .evals * perTrial κ (s .gradients) n;
@@ -171,7 +172,7 @@ module _ (s : Start) where
         none Gradient k = omega arith
 
     begins : Begun (standingOf made) body
-    unfolding searchRecordOf searchOptionsOf begunSearchOf
+    unfolding searchRecordOf wolfeOptionsOf begunSearchOf
     begins = (
       stands made made-sound ∙ ap (shown searchEnding 0) made-rest,
       λ i. subst (λ (r : Record). Relates r (record { values = 0; gradients = 0; rest = body })) (sym (stands-keeps made))

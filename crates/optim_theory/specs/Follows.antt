@@ -8,10 +8,12 @@ use Rattle.protocol.specs.Protocol.{Reply, ended, differenced}
 use Rattle.protocol.specs.Ask.{Ask, finish, query}
 use Rattle.objective.specs.Algorithm.{differences}
 use Rattle.objective.specs.Follows.{Sized, toDo}
-use Rattle.optim.specs.declared.Record.{Record}
-use Rattle.optim.specs.Record.{Other}
-use Rattle.optim.specs.Answer.{standingOf, steppedOf, takenOf}
-use Rattle.optim.specs.Start.{begunRecordOf, differencesOf}
+use Rattle.records.specs.declared.Record.{Record}
+use Rattle.records.specs.Record.{Other}
+use Rattle.stands.specs.Standing.{standingOf}
+use Rattle.optim.specs.Answer.{steppedOf, takenOf}
+use Rattle.starts.specs.Starts.{begunRecordOf}
+use Rattle.optim.specs.Start.{differencesOf}
 use Rattle.optim_theory.specs.Jobs.{shown}
 
 -- "Bare differences never do" read a value that is not finite as +infinity

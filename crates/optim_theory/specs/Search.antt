@@ -16,8 +16,8 @@ use Rattle.protocol.specs.Bounds.{questionsOf}
 use Rattle.linesearch_theory.specs.Algorithm.{WolfeResult, Searched, refuses, gives, wolfeRefusal, strongWolfe}
 use Rattle.linesearch_theory.specs.Counts.{perTrial}
 use Rattle.linesearch_theory.specs.Follows.{ZeroFrom, ZeroPast}
-use Rattle.optim.specs.declared.Record.{Record}
-use Rattle.optim.specs.Record.{mostEvals, validOf}
+use Rattle.records.specs.declared.Record.{Record}
+use Rattle.records.specs.Record.{mostEvals, validOf}
 use Rattle.optim.specs.Start.{searchOf}
 use Rattle.optim_theory.specs.Engine.{answerCode}
 use Rattle.optim_theory.specs.Follows.{asTold}

@@ -34,7 +34,7 @@ use Rattle.linesearch.specs.declared.Line.{Line}
 use Rattle.linesearch_theory.specs.Algorithm.{Searched, refuses, gives, search, wolfeRefusal, lineFrom, strongWolfe}
 use Rattle.linesearch_theory.specs.Counts.{perGradient, perTrial}
 use Rattle.linesearch_theory.proofs.Counts.{counts as search-counts}
-use Rattle.quasinewton_theory.specs.Algorithm.{Position, stepped, smallDecrease, smallStep, stopsLower, succeeded, concluded, initialStep, searched, notDescending, iterated, round, withGradient, withValue, opened, opening, quasiNewton}
+use Rattle.quasinewton_theory.specs.Algorithm.{Position, stepped, smallDecrease, smallStep, stopsLower, succeeded, concluded, initialStep, searched, notDescending, iterated, round, withGradient, withValue, opened, opening, begunWith, quasiNewton}
 use Rattle.quasinewton_theory.specs.Counts.{withGradients, withoutGradients, GradientBounds, GradientJob, GradientCounts}
 use Rattle.quasinewton_theory.proofs.Laws.{by-test, opening-case, no-restart}
 
@@ -149,17 +149,17 @@ module _ (κ : Kind) (limits : Bool) (o : GradientOptions) (x : List Float) (l :
   cap i = trial + i * (o .wolfe .evals * trial)
 
   abbrev Head : ℕ → Position → Type 0
-  Head k p = (length (p .x) ≤ n) × (p .options ≡ o) × (limit (p .iterations) ⊑ l .iter) × (k ≤ cap (p .iterations))
+  Head k p = (length (p .x) ≤ n) × (p .options ≡ begunWith limits o) × (limit (p .iterations) ⊑ l .iter) × (k ≤ cap (p .iterations))
 
-  keeps : (k b i : ℕ) (m : Ask (Ending Position)) → Costs κ b m (End κ n o i) → limit i ⊑ l .iter → k + b ≤ cap i → Keeps κ bound Head k m
+  keeps : (k b i : ℕ) (m : Ask (Ending Position)) → Costs κ b m (End κ n (begunWith limits o) i) → limit i ⊑ l .iter → k + b ≤ cap i → Keeps κ bound Head k m
   keeps k b i m c few room =
-      keeps-by-cost κ bound Head b k m (End κ n o i) c (le-trans room (in-bound i few))
+      keeps-by-cost κ bound Head b k m (End κ n (begunWith limits o) i) c (le-trans room (in-bound i few))
       (λ j p j≤ e. (e .0, e .1, subst (λ (z : ℕ). limit z ⊑ l .iter) (sym (e .2)) few, subst (λ (z : ℕ). j ≤ cap z) (sym (e .2)) (le-trans j≤ room)))
 
-  opens : Keeps κ bound Head 0 (opening limits o x)
+  opens : Keeps κ bound Head 0 (opening limits (begunWith limits o) x)
   opens =
-      opening-case (Keeps κ bound Head 0) limits o x (λ k d. tt)
-      (λ a. keeps 0 trial 0 (opened limits o x) (opened-costs κ n limits o x (le-refl n)) (none-used (l .iter)) (omega arith))
+      opening-case (Keeps κ bound Head 0) limits (begunWith limits o) x (λ k d. tt)
+      (λ a. keeps 0 trial 0 (opened limits (begunWith limits o) x) (opened-costs κ n limits (begunWith limits o) x (le-refl n)) (none-used (l .iter)) (omega arith))
 
   rounds : (v g : ℕ) (p : Position) → Head (ofBoth κ v g) p → reached (p .iterations) (l .iter) ≡ false → Keeps κ bound Head (ofBoth κ v g) (round p)
   rounds v g p h i =

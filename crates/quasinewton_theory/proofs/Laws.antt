@@ -31,7 +31,7 @@ use Rattle.linesearch_theory.specs.Algorithm.{WolfeResult, gives}
 use Rattle.linesearch_theory.specs.Laws.{ValueTold, Heard}
 use Rattle.linesearch_theory.proofs.LawsTold.{told-grows, heard-finite}
 use Rattle.linesearch_theory.proofs.Laws.{search-laws}
-use Rattle.quasinewton_theory.specs.Algorithm.{Position, stored, stepped, smallDecrease, smallStep, stopsLower, succeeded, concluded, initialStep, searched, notDescending, iterated, round, tests, withGradient, withValue, opened, opening, quasiNewton}
+use Rattle.quasinewton_theory.specs.Algorithm.{Position, stored, stepped, smallDecrease, smallStep, stopsLower, succeeded, concluded, initialStep, searched, notDescending, iterated, round, tests, withGradient, withValue, opened, opening, begunWith, quasiNewton}
 use Rattle.quasinewton_theory.specs.Laws.{Shaped, Admitted, AtHead, SearchRefusal, FirstRefusal, RoundEnds, OpeningEnds, HeadLaws, GradientLaws, FailsBy, RefusalLaws}
 use Rattle.quasinewton_theory.proofs.FirstStep.{first-step-positive, first-step-at-most-one}
 use Rattle.quasinewton_theory.proofs.Steepest.{steepest-descends, negation-finite}
@@ -264,11 +264,12 @@ asks-first : (s : Start) (x : List Float) (f : Float → Ask (Ending Position)) 
 unfolding _>>=_
 asks-first s x f h = h
 
-opening-law : (s : Start) (x : List Float) → Opening quasiNewton Least At s (opening (s .0) (s .1) x)
+opening-law : (s : Start) (x : List Float) → Opening quasiNewton Least At s (opening (s .0) (begunWith (s .0) (s .1)) x)
 opening-law s x =
-    opening-case (Opening quasiNewton Least At s) (s .0) (s .1) x (λ k d. tt)
-    (λ a. asks-first s x (withValue (s .0) (s .1) x)
-    (wp-map [] (opened (s .0) (s .1) x) OpeningEnds (Opens quasiNewton Least At s) (opens s) (opening-ends (s .0) (s .1) x a)))
+    let o = begunWith (s .0) (s .1) in
+    opening-case (Opening quasiNewton Least At s) (s .0) o x (λ k d. tt)
+    (λ a. asks-first s x (withValue (s .0) o x)
+    (wp-map [] (opened (s .0) o x) OpeningEnds (Opens quasiNewton Least At s) (opens s) (opening-ends (s .0) o x a)))
 
 -- ---- the tests
 

@@ -131,7 +131,11 @@ opening limited o x =
     (cond (eqb (length x) 0) (finish (fails 9 0))
     (cond (not (allFinite x)) (finish (fails 12 1)) (opened limited o x)))))))
 
+-- "bfgs ignores memory": its fit is begun with a memory of 0, so that no position of it holds what was given
+abbrev pub begunWith : Bool → GradientOptions → GradientOptions
+begunWith limited o = record { gradtol = o .gradtol; ftol = o .ftol; xtol = o .xtol; wolfe = o .wolfe; memory = cond limited (o .memory) 0; gradients = o .gradients }
+
 -- a start: whether memory is limited (lbfgs), and the options
 abbrev pub quasiNewton : Rounds (Bool × GradientOptions)
 quasiNewton =
-    record { Position = Position; x = λ p. p .x; f = λ p. p .f; iterations = λ p. p .iterations; opening = λ s x. opening (s .0) (s .1) x; tests = tests; round = round }
+    record { Position = Position; x = λ p. p .x; f = λ p. p .f; iterations = λ p. p .iterations; opening = λ s x. opening (s .0) (begunWith (s .0) (s .1)) x; tests = tests; round = round }
