@@ -119,8 +119,8 @@ fn taken(r: Record, v: f64) -> Answered
     requires { ⌜ Open r ⌝ }
     ensures { λ a. ⌜ outcomeOf a ≡ takenOf r v ⌝ }
 {
-    let next = stepped(r, v);
-    stands::standing(next)
+    let q = stepped(r, v);
+    stands::standing(q)
 }
 
 // The reply to the gradient g that was asked for.
