@@ -163,6 +163,10 @@ fn by_script(random: &mut Random, limited: bool) -> Drawn {
     let n = random.pick(&[1, 1, 1, 1, 2, 3, 16]);
     let mut g0: Vec<f64> = (0..n).map(|_| random.pick(&[0.25, -0.5, 0.0, -0.0, TINY])).collect();
     g0[0] = random.pick(&[1.0, -1.0, 0.5, -4.0, 1e-20, 2f64.powi(-140), -(2f64.powi(-532)), 2f64.powi(-536), -(2f64.powi(20))]);
+    if g0[0].abs() < 1e-150 && random.chance(50) {
+        // Slopes of a few of the least f64.
+        (start.c1, start.c2, start.gradients, start.max_evals) = (TINY, 1e-323, true, 30);
+    }
     let f0 = random.pick(&[0.0, -0.0, 1.0, 1.0, -7.5, 1e16, 1e-310, 1e300, -MAX]);
     scripted(random, start, f0, g0, Vec::new())
 }
@@ -189,7 +193,7 @@ fn of_the_cubic(random: &mut Random, limited: bool) -> Drawn {
     let eighths = |list: &[f64]| list.iter().map(|v| -v / 8.0).collect::<Vec<_>>();
     // Their squares are 33 and 47 sixty-fourths, and the largest is a half.
     let (s, g) = random.pick(&[(33.0 / 64.0, eighths(&[4.0, 4.0, 1.0])), (47.0 / 64.0, eighths(&[4.0, 4.0, 3.0, 2.0, 1.0, 1.0]))]);
-    let (c1, g0, first) = match random.below(8) {
+    let (c1, g0, first) = match random.below(9) {
         // A denominator of 0: the slopes are equal and the discriminant is 0.
         0 => (0.5, vec![-1.0; 3], vec![(-1.0, -3.0)]),
         // An infinite discriminant, and so an infinite denominator.
@@ -201,6 +205,8 @@ fn of_the_cubic(random: &mut Random, limited: bool) -> Drawn {
         5 => (0.5, g, vec![((0.5 / 0.95 - 1.0) * s, (1.0 / 0.95 - 1.0) * s)]),
         // A discriminant of 0, where the slopes differ: the first step is a half.
         6 => (0.6, vec![-2.0; 3], vec![(-3.5, -27.0)]),
+        // A discriminant below 0.
+        7 => (0.7, vec![-1.0], vec![(-0.65, -1.0)]),
         // Differences of values that overflow, from a start at the least f64.
         _ => (1e-4, vec![-1.0], vec![(MAX, 1.0)]),
     };
@@ -235,18 +241,20 @@ fn faint(random: &mut Random, limited: bool) -> Drawn {
     told(random, start, Kind::List(list), 60)
 }
 
-// A direction that grows until it, or x, leaves the finite range.
+// A direction that grows until it, or x, leaves the finite range. Of the dense matrix it grows to about 2^500, past which
+// the update overflows; what is missing then is doubled.
 fn drifting(random: &mut Random, limited: bool) -> Drawn {
     let mut start = usual(random, limited);
     (start.gradients, start.grad_tol, start.c1, start.c2) = (random.chance(95), 0.0, TINY, 0.9999999999999999);
-    (start.max_evals, start.step_max) = (random.pick(&[200, 1000]), random.pick(&[1e10, 1.7e308]));
-    start.max_iter = random.pick(&[None, None, None, Some(21), Some(25)]);
+    (start.max_evals, start.step_max) = (random.pick(&[200, 1000, 1000]), random.pick(&[1e10, 1.7e308, 1.7e308]));
+    start.max_iter = random.pick(&[None, None, None, Some(9), Some(21), Some(25)]);
     let n = random.pick(&[1, 1, 1, 2, 15, 16]);
     start.x0 = vec![random.pick(&[0.0, 0.0, 1.0, -1.0]); n];
     let rate = (1 + random.below(900)) as f64 * 2f64.powi(-53);
-    let steep = random.pick(&[2f64.powi(900), 2f64.powi(960), INF]);
+    let far = if limited { 2f64.powi(960) } else { 2f64.powi(410) };
+    let steep = random.pick(&[far, far, INF]);
     let last = random.pick(&[-0.5, -0.5, 0.0, NAN]);
-    told(random, start, Kind::Drift { rate, steep, last }, 900)
+    told(random, start, Kind::Drift { rate, steep, last }, 1600)
 }
 
 // A search that doubles its step hundreds of times: the cubic's width times its slope then overflows.
