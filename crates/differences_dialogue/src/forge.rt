@@ -1,7 +1,7 @@
 // Records that the engine never returned: one field of a record set to a word.
 use objective::Differences;
-use optim::Counts;
 use optim::Record;
+use records::Counts;
 
 fn counts(c: Counts, field: u64, word: u64) -> Counts {
     let mut fevals = c.fevals;
@@ -83,7 +83,10 @@ pub fn record(r: Record, field: u64, index: u64, word: u64) -> Record {
     }
     let limits = r.limits;
     let options = r.options;
+    let gradient = r.gradient;
     let simplex = r.simplex;
+    let descent = r.descent;
+    let model = r.model;
     let near = position(r.diff, field, word);
     Record {
         accepted,
@@ -92,7 +95,10 @@ pub fn record(r: Record, field: u64, index: u64, word: u64) -> Record {
         counts: counts(r.counts, field, word),
         limits,
         options,
+        gradient,
         diff: lists(near, field, index, word),
         simplex,
+        descent,
+        model,
     }
 }

@@ -8,12 +8,13 @@ use lib.Dec.{eqb, ltb}
 use lib.Ieee.{Float}
 use Rattle.protocol.specs.declared.Allowance.{Allowance}
 use Rattle.protocol.specs.Protocol.{fitted, searched, differenced, Reply, ask, ended, refused}
-use Rattle.optim.specs.Record.{blankOf, noOptions, simplexMark}
-use Rattle.optim.specs.Start.{simplexOf}
+use Rattle.records.specs.declared.Record.{Record}
+use Rattle.records.specs.Record.{blankOf, noOptions, wolfeOptionsOf, noGradientOptions, simplexMark, bfgsMark}
+use Rattle.optim.specs.Start.{simplexOf, bfgsOf, lbfgsOf}
 use Rattle.optim.specs.Answer.{answerOf}
 use Rattle.text.specs.declared.Line.{Line}
 use Rattle.text.specs.Forms.{most}
-use Rattle.text.specs.Lines.{firstLineOf, simplexLineOf, pointLineOf, answerLineOf}
+use Rattle.text.specs.Lines.{firstLineOf, simplexLineOf, gradientLineOf, pointLineOf, answerLineOf}
 use Rattle.lines.specs.Print.{filled, askText, endText, noText, badText}
 use Rattle.talk.specs.declared.State.{State}
 use Rattle.talk.specs.declared.Turn.{Turn}
@@ -43,8 +44,11 @@ stopped = 0
 abbrev pub line1 : ℕ
 line1 = 1
 
-abbrev pub line2 : ℕ
-line2 = 2
+abbrev pub simplexLine2 : ℕ
+simplexLine2 = 2
+
+abbrev pub gradientLine2 : ℕ
+gradientLine2 = 3
 
 abbrev pub line3 : ℕ
 line3 = 4
@@ -57,8 +61,18 @@ noAllowance = record { given = false; count = 0 }
 
 -- before line 1
 unfoldable pub begunOf : State
-unfolding blankOf
-begunOf = record { due = line1; number = 1; n = 0; options = noOptions; allowances = record { iter = noAllowance; fevals = noAllowance }; engine = blankOf }
+unfolding blankOf wolfeOptionsOf
+begunOf =
+    record {
+      due = line1;
+      number = 1;
+      job = 0;
+      n = 0;
+      options = noOptions;
+      gradient = noGradientOptions;
+      allowances = record { iter = noAllowance; fevals = noAllowance };
+      engine = blankOf;
+    }
 
 -- the number of the next line; an input of 2^64 lines is not to be had, and the number stays there
 unfoldable pub followingOf : ℕ → ℕ
@@ -72,24 +86,34 @@ Turned t before after r = (r ≡ record { count = length (t .0); state = t .1 })
 
 -- "`bad` and the line number for a line of another form. It stops after `bad`"
 unfoldable pub badOf : State → List ℕ × State
-badOf s = (badText (s .number), record { due = stopped; number = s .number; n = s .n; options = s .options; allowances = s .allowances; engine = s .engine })
+badOf s = (badText (s .number), record { due = stopped; number = s .number; job = s .job; n = s .n; options = s .options; gradient = s .gradient; allowances = s .allowances; engine = s .engine })
 
--- Line 1. bfgs and lbfgs are no jobs of the engine yet: `bad`.
+-- the form of line 2, by the job that line 1 said
+unfoldable pub formAfter : ℕ → ℕ
+formAfter job = cond (eqb job simplexMark) simplexLine2 gradientLine2
+
+-- Line 1
 unfoldable pub firstOf : State → Line → List ℕ × State
 firstOf s l =
     let f = firstLineOf l in
     cond (f .ok)
-    (cond (eqb (f .job) simplexMark)
-    ([], record { due = line2; number = followingOf (s .number); n = f .n; options = s .options; allowances = s .allowances; engine = s .engine })
-    (badOf s))
+    ([], record { due = formAfter (f .job); number = followingOf (s .number); job = f .job; n = f .n; options = s .options; gradient = s .gradient; allowances = s .allowances; engine = s .engine })
     (badOf s)
 
--- Line 2
+-- Line 2 of simplex
 unfoldable pub secondOf : State → Line → List ℕ × State
 secondOf s l =
     let f = simplexLineOf l in
     cond (f .ok)
-    ([], record { due = line3; number = followingOf (s .number); n = s .n; options = f .options; allowances = f .allowances; engine = s .engine })
+    ([], record { due = line3; number = followingOf (s .number); job = s .job; n = s .n; options = f .options; gradient = s .gradient; allowances = f .allowances; engine = s .engine })
+    (badOf s)
+
+-- Line 2 of bfgs and lbfgs
+unfoldable pub secondGradientOf : State → Line → List ℕ × State
+secondGradientOf s l =
+    let f = gradientLineOf l in
+    cond (f .ok)
+    ([], record { due = line3; number = followingOf (s .number); job = s .job; n = s .n; options = s .options; gradient = f .options; allowances = f .allowances; engine = s .engine })
     (badOf s)
 
 -- "It stops after .. a refused start"
@@ -98,11 +122,18 @@ dueAfter (ask q) = answers
 dueAfter (ended o) = answers
 dueAfter (refused number detail) = stopped
 
+-- the engine's reply to the start of the job at x
+unfoldable pub startOf : State → List Float → Reply × Record
+startOf s x =
+    cond (eqb (s .job) simplexMark) (simplexOf x (s .options) (s .allowances))
+    (cond (eqb (s .job) bfgsMark) (bfgsOf x (s .gradient) (s .allowances))
+    (lbfgsOf x (s .gradient) (s .allowances)))
+
 -- a start at x
 unfoldable pub startedOf : State → List Float → List ℕ × State
 startedOf s x =
-    let o = simplexOf x (s .options) (s .allowances) in
-    (replyText (o .0), record { due = dueAfter (o .0); number = followingOf (s .number); n = s .n; options = s .options; allowances = s .allowances; engine = o .1 })
+    let o = startOf s x in
+    (replyText (o .0), record { due = dueAfter (o .0); number = followingOf (s .number); job = s .job; n = s .n; options = s .options; gradient = s .gradient; allowances = s .allowances; engine = o .1 })
 
 -- seventeen words of a longer point: a list of more than sixteen is refused with 2, whatever it holds
 unfoldable pub keptOf : ℕ → ℕ
@@ -116,7 +147,7 @@ thirdOf s l = let f = pointLineOf l (s .n) in cond (f .ok) (startedOf s (take (k
 unfoldable pub toldOf : State → ℕ → ℕ → List Float → List ℕ × State
 toldOf s number kind words =
     let o = answerOf (s .engine) number kind words in
-    (replyText (o .0), record { due = s .due; number = followingOf (s .number); n = s .n; options = s .options; allowances = s .allowances; engine = o .1 })
+    (replyText (o .0), record { due = s .due; number = followingOf (s .number); job = s .job; n = s .n; options = s .options; gradient = s .gradient; allowances = s .allowances; engine = o .1 })
 
 -- an answer
 unfoldable pub heardOf : State → Line → List ℕ × State
@@ -126,7 +157,8 @@ heardOf s l = let f = answerLineOf l in cond (f .ok) (toldOf s (f .number) (f .k
 unfoldable pub decidedOf : State → Line → List ℕ × State
 decidedOf s l =
     cond (eqb (s .due) line1) (firstOf s l)
-    (cond (eqb (s .due) line2) (secondOf s l)
+    (cond (eqb (s .due) simplexLine2) (secondOf s l)
+    (cond (eqb (s .due) gradientLine2) (secondGradientOf s l)
     (cond (eqb (s .due) line3) (thirdOf s l)
     (cond (eqb (s .due) answers) (heardOf s l)
-    ([], s))))
+    ([], s)))))

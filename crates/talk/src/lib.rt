@@ -4,6 +4,7 @@ use optim::Answered;
 use optim::Record;
 use protocol::Allowance;
 use protocol::Allowances;
+use protocol::GradientOptions;
 use protocol::Said;
 use protocol::SimplexOptions;
 use text::Line;
@@ -12,19 +13,26 @@ ghost use mathlib.Core.Path.{_≡_};
 ghost use mathlib.Core.List.{[]};
 ghost use lib.ListN.{drop, length};
 ghost use Rattle.lines.specs.Print.{filled};
-ghost use Rattle.optim.specs.Record.{outcomeOf};
+ghost use Rattle.records.specs.Record.{outcomeOf};
 ghost use Rattle.talk.specs.Program.{scannedOf, byBytes, firstPlace, Stepped};
-ghost use Rattle.talk.specs.Talk.{replyText, Few, Turned, begunOf, followingOf, dueAfter, keptOf, badOf, firstOf, secondOf, startedOf, thirdOf, toldOf, heardOf, decidedOf};
+ghost use Rattle.talk.specs.Talk.{replyText, Few, Turned, begunOf, followingOf, dueAfter, keptOf, badOf, formAfter, firstOf, secondOf, secondGradientOf, startOf, startedOf, thirdOf, toldOf, heardOf, decidedOf};
+
+// The marks of the jobs, as line 1 has them; the third is lbfgs.
+const SIMPLEX: u64 = 1;
+
+const BFGS: u64 = 2;
 
 // The state between two lines. `due` is the form of the line that is due, as text's reader has it: 1
-// line 1, 2 line 2, 4 line 3, 5 an answer; at any other, 0 as the program sets it, it has stopped.
-// `number` is that line's number. n, options and allowances are what lines 1 and 2 said, `engine` is the
-// engine's record.
+// line 1, 2 line 2 of simplex, 3 line 2 of bfgs and lbfgs, 4 line 3, 5 an answer; at any other, 0 as the
+// program sets it, it has stopped. `number` is that line's number. The job's mark, n, the options (those
+// of simplex, or `gradient`) and allowances are what lines 1 and 2 said, `engine` is the engine's record.
 pub struct State {
     pub due: u64,
     pub number: u64,
+    pub job: u64,
     pub n: u64,
     pub options: SimplexOptions,
+    pub gradient: GradientOptions,
     pub allowances: Allowances,
     pub engine: Record,
 }
@@ -61,13 +69,8 @@ pub fn begun() -> State
     ensures { λ r. ⌜ r ≡ begunOf ⌝ }
 {
     let engine = optim::blank();
-    let options = SimplexOptions {
-        xtol: 0.0,
-        ftol: 0.0,
-        step: 0.0,
-        restarts: 0,
-        adaptive: false,
-    };
+    let options = records::no_options();
+    let gradient = records::no_gradient_options();
     let none = Allowance {
         given: false,
         count: 0,
@@ -79,8 +82,10 @@ pub fn begun() -> State
     State {
         due: 1,
         number: 1,
+        job: 0,
         n: 0,
         options,
+        gradient,
         allowances,
         engine,
     }
@@ -116,25 +121,33 @@ fn bad(out: &mut [u8; 512], s: State) -> Turn
     Turn { count, state }
 }
 
-// Line 1. Simplex is the one job so far.
+// The form of line 2.
+fn form_after(job: u64) -> u64
+    ensures { λ r. ⌜ r ≡ formAfter job ⌝ }
+{
+    if job == SIMPLEX {
+        return 2;
+    }
+    3
+}
+
+// Line 1.
 fn first(out: &mut [u8; 512], s: State, l: Line) -> Turn
     ensures { λ r. ⌜ Turned (firstOf s l) (now (out .entry)) (now (out .exit)) r ⌝ }
 {
     let f = text::first_line(l);
     if f.ok {
-        if f.job == 1 {
-            let mut state = s;
-            state.due = 2;
-            state.number = following(s.number);
-            state.n = f.n;
-            return Turn { count: 0, state };
-        }
-        return bad(out, s);
+        let mut state = s;
+        state.due = form_after(f.job);
+        state.number = following(s.number);
+        state.job = f.job;
+        state.n = f.n;
+        return Turn { count: 0, state };
     }
     bad(out, s)
 }
 
-// Line 2.
+// Line 2 of simplex.
 fn second(out: &mut [u8; 512], s: State, l: Line) -> Turn
     ensures { λ r. ⌜ Turned (secondOf s l) (now (out .entry)) (now (out .exit)) r ⌝ }
 {
@@ -146,6 +159,24 @@ fn second(out: &mut [u8; 512], s: State, l: Line) -> Turn
         state.due = 4;
         state.number = following(s.number);
         state.options = options;
+        state.allowances = allowances;
+        return Turn { count: 0, state };
+    }
+    bad(out, s)
+}
+
+// Line 2 of bfgs and lbfgs.
+fn second_gradient(out: &mut [u8; 512], s: State, l: Line) -> Turn
+    ensures { λ r. ⌜ Turned (secondGradientOf s l) (now (out .entry)) (now (out .exit)) r ⌝ }
+{
+    let f = text::gradient_line(l);
+    let options = f.options;
+    let allowances = f.allowances;
+    if f.ok {
+        let mut state = s;
+        state.due = 4;
+        state.number = following(s.number);
+        state.gradient = options;
         state.allowances = allowances;
         return Turn { count: 0, state };
     }
@@ -183,11 +214,24 @@ fn due_after(a: Answered) -> u64
     }
 }
 
+// The engine's reply to the start of the job at x.
+fn start(s: State, x: &[f64]) -> Answered
+    ensures { λ r. ⌜ outcomeOf r ≡ startOf s (now (x .entry)) ⌝ }
+{
+    if s.job == SIMPLEX {
+        return optim::simplex(x, s.options, s.allowances);
+    }
+    if s.job == BFGS {
+        return optim::bfgs(x, s.gradient, s.allowances);
+    }
+    optim::lbfgs(x, s.gradient, s.allowances)
+}
+
 // The fit is started at x.
 fn started(out: &mut [u8; 512], s: State, x: &[f64]) -> Turn
     ensures { λ r. ⌜ Turned (startedOf s (now (x .entry))) (now (out .entry)) (now (out .exit)) r ⌝ }
 {
-    let a = optim::simplex(x, s.options, s.allowances);
+    let a = start(s, x);
     let count = shown(out, a);
     let next = a.next;
     let mut state = s;
@@ -245,6 +289,9 @@ pub fn decided(out: &mut [u8; 512], s: State, l: Line) -> Turn
     }
     if due == 2 {
         return second(out, s, l);
+    }
+    if due == 3 {
+        return second_gradient(out, s, l);
     }
     if due == 4 {
         return third(out, s, l);

@@ -1,6 +1,7 @@
 -- `fit::main` is safe and ends: each turn has one fewer to come. Assumes nothing.
 use borrow.Author.Needs.{needs}
 use mathlib.Core.Path.{_≡_}
+use native.Mathlib.Omega.{arith}
 use lib.ListN.{length}
 use Rattle.fit.proofs.main.Statement.{statement}
 use Rattle.fit.proofs.main.Tie as tie
@@ -29,6 +30,6 @@ main-spec =
     (λ c. search needs)
     (λ c κs. search needs)
     (λ c. search needs)
-    (λ c. search needs)
+    (λ c. omega (arith, c .before .before .before .before .before .before .before .before .before .before .loop-test .taken))
     (λ c. search needs)
     (λ c. search needs))

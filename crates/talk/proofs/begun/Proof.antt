@@ -1,14 +1,15 @@
 -- `talk::begun` meets its contract: each return follows the calls and tests that led to it. Assumes nothing.
 use borrow.Author.Needs.{needs}
-use lib.Ieee.{ofBits}
 use Rattle.talk.specs.Talk.{begunOf}
 use Rattle.talk.proofs.begun.Statement.{statement}
 use Rattle.talk.proofs.begun.Tie as tie
 
 pub begun-spec : {M : Type 1} → statement M
-unfolding begunOf ofBits
+unfolding begunOf
 begun-spec =
     tie.close
     (tie.spec
     (λ c κs. search needs)
-    (λ c. rw (← c .blank .ensures)))
+    (λ c κs. search needs)
+    (λ c κs. search needs)
+    (λ c. rw (← c .before .before .blank .ensures, ← c .before .no-options .ensures, ← c .no-gradient-options .ensures)))

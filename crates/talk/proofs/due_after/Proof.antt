@@ -3,7 +3,7 @@ use borrow.Author.Needs.{needs}
 use mathlib.Core.Path.{sym, ap}
 use Rattle.protocol.specs.declared.Said.{Said}
 use Rattle.protocol.specs.Protocol.{replyOf}
-use Rattle.optim.specs.Record.{outcomeOf}
+use Rattle.records.specs.Record.{outcomeOf}
 use Rattle.talk.specs.Talk.{dueAfter}
 use Rattle.talk.proofs.due_after.Statement.{statement}
 use Rattle.talk.proofs.due_after.Tie as tie

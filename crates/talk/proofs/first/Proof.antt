@@ -1,7 +1,6 @@
 -- `talk::first` meets its contract: each return follows the calls and tests that led to it. Assumes nothing.
 use borrow.Author.Needs.{needs}
 use mathlib.Core.Path.{refl}
-use borrow.Author.Tests.{eq-eqb, ne-eqb}
 use Rattle.talk.specs.Talk.{firstOf}
 use Rattle.talk.proofs.first.Statement.{statement}
 use Rattle.talk.proofs.first.Tie as tie
@@ -13,8 +12,7 @@ first-spec =
     (tie.spec
     (λ c κs. search needs)
     (λ c κs. search needs)
-    (λ c. rw (← c .before .before .before .before .first-line .ensures, ← c .following .ensures, c .before .before .before .if1 .taken, eq-eqb _ _ (c .before .if2 .taken)) (refl, refl))
     (λ c κs. search needs)
-    (λ c. rw (← c .before .before .before .before .before .first-line .ensures, c .before .before .before .before .if1 .taken, ne-eqb _ _ (c .before .before .if2 .left)) (c .bad .ensures))
+    (λ c. rw (← c .before .before .before .first-line .ensures, ← c .before .form-after .ensures, ← c .following .ensures, c .before .before .if1 .taken) (refl, refl))
     (λ c κs. search needs)
-    (λ c. rw (← c .before .before .before .first-line .ensures, c .before .before .if1 .left) (c .bad2 .ensures)))
+    (λ c. rw (← c .before .before .before .first-line .ensures, c .before .before .if1 .left) (c .bad .ensures)))

@@ -1,7 +1,7 @@
 -- `talk::shown` meets its contract: each of the things that the engine says is put as its line. Assumes nothing.
 use borrow.Author.Needs.{needs}
 use mathlib.Core.Path.{refl}
-use Rattle.optim.specs.Record.{outcomeOf}
+use Rattle.records.specs.Record.{outcomeOf}
 use Rattle.talk.proofs.Shows.{put-is, ask-shown, end-shown, no-shown, search-shown, gradient-shown}
 use Rattle.talk.proofs.shown.Statement.{statement}
 use Rattle.talk.proofs.shown.Tie as tie

@@ -2,10 +2,10 @@
 use borrow.Author.Needs.{needs}
 use mathlib.Core.Path.{sym, subst}
 use Rattle.protocol.specs.Protocol.{Reply}
-use Rattle.optim.specs.declared.Record.{Record}
-use Rattle.optim.specs.Record.{outcomeOf}
+use Rattle.records.specs.declared.Record.{Record}
+use Rattle.records.specs.Record.{outcomeOf}
 use Rattle.talk.specs.Talk.{Few, startedOf}
-use Rattle.talk.proofs.Few.{simplex-few}
+use Rattle.talk.proofs.Few.{start-few}
 use Rattle.talk.proofs.started.Statement.{statement}
 use Rattle.talk.proofs.started.Tie as tie
 
@@ -15,7 +15,7 @@ started-spec =
     tie.close
     (tie.spec
     (λ c κs. search needs)
-    (λ c κs. subst (λ (o : Reply × Record). Few (o .0) (o .1 .n)) (sym (c .before .simplex .ensures)) (simplex-few _ _ _))
+    (λ c κs. subst (λ (o : Reply × Record). Few (o .0) (o .1 .n)) (sym (c .before .start .ensures)) (start-few _ _))
     (λ c κs. search needs)
     (λ c κs. search needs)
-    (λ c. (rw (← c .before .before .before .before .before .simplex .ensures, ← c .before .before .before .shown .ensures .0, ← c .before .due-after .ensures, ← c .following .ensures), rw (← c .before .before .before .before .before .simplex .ensures) (c .before .before .before .shown .ensures .1))))
+    (λ c. (rw (← c .before .before .before .before .before .start .ensures, ← c .before .before .before .shown .ensures .0, ← c .before .due-after .ensures, ← c .following .ensures), rw (← c .before .before .before .before .before .start .ensures) (c .before .before .before .shown .ensures .1))))

@@ -2,8 +2,8 @@
 use borrow.Author.Needs.{needs}
 use mathlib.Core.Path.{sym, subst}
 use Rattle.protocol.specs.Protocol.{Reply}
-use Rattle.optim.specs.declared.Record.{Record}
-use Rattle.optim.specs.Record.{outcomeOf}
+use Rattle.records.specs.declared.Record.{Record}
+use Rattle.records.specs.Record.{outcomeOf}
 use Rattle.talk.specs.Talk.{Few, toldOf}
 use Rattle.talk.proofs.Few.{answer-few}
 use Rattle.talk.proofs.told.Statement.{statement}
