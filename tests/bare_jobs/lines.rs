@@ -1,7 +1,7 @@
 // The first lines of a job, as crates/bare_jobs has them.
 
 use crate::fields::{decimal, flag, float};
-use crate::rust::Search;
+use crate::search::Search;
 
 pub enum Job {
     Search { gradients: bool, max_evals: u64 },

@@ -8,10 +8,14 @@
 mod choice;
 #[path = "../shared/counts.rs"]
 mod counts;
+#[path = "../shared/cubic.rs"]
 mod cubic;
 mod dialogue;
 #[path = "../shared/fields.rs"]
 mod fields;
+#[path = "../shared/gradients.rs"]
+#[allow(dead_code)]
+mod gradients;
 mod jobs;
 mod lines;
 #[path = "../shared/objectives.rs"]
@@ -26,6 +30,10 @@ mod random;
 mod reached;
 mod rust;
 mod sample;
+#[path = "../shared/script.rs"]
+mod script;
+#[path = "../shared/search.rs"]
+mod search;
 mod shadow;
 #[path = "../shared/spoil.rs"]
 mod spoil;

@@ -4,8 +4,8 @@ use crate::counts::Reached;
 use crate::cubic;
 use crate::fields::{self, Answer, G, V};
 use crate::lines;
-use crate::rust::{Outcome, Run, Search, Start};
-use crate::shadow;
+use crate::rust::{Outcome, Run, Start};
+use crate::search::{self, Search};
 
 // Things of the pipe, which a sample of lines does not hold.
 pub const OF_THE_PIPE: &[&str] =
@@ -111,6 +111,7 @@ pub const ANSWERS: &[&str] = &[
     "told a NaN with a payload",
     "differences: told NaN",
     "differences: told an infinity",
+    "left unfinished",
     "differences: ended",
     "differences: left unfinished",
     "differences: a gradient with NaN",
@@ -118,7 +119,7 @@ pub const ANSWERS: &[&str] = &[
 ];
 
 pub fn all() -> Vec<&'static str> {
-    let search = [shadow::TRIALS, shadow::DOUBLING, shadow::ZOOM, cubic::WAYS, shadow::ENDS];
+    let search = [search::TRIALS, search::DOUBLING, search::ZOOM, cubic::WAYS, search::ENDS, search::BARE];
     [OF_THE_PIPE, STOPS, STARTS, ANSWERS].into_iter().chain(search).flatten().copied().collect()
 }
 

@@ -2,23 +2,10 @@
 // Refusal 2 is 01's own and is decided here.
 
 use crate::fields::{G, V};
+use crate::search::Search;
 use crate::tellers::Teller;
 use std::panic::{catch_unwind, resume_unwind, AssertUnwindSafe};
 use tsecon_optim::{central_difference_gradient, strong_wolfe, ObjectiveFn, OptimError, WolfeOptions, WolfeResult};
-
-#[derive(Clone, Default)]
-pub struct Search {
-    pub gradients: bool,
-    pub max_evals: u64,
-    pub c1: f64,
-    pub c2: f64,
-    pub step_max: f64,
-    pub initial_step: f64,
-    pub f0: f64,
-    pub x0: Vec<f64>,
-    pub d: Vec<f64>,
-    pub g: Vec<f64>,
-}
 
 pub enum Start {
     Search(Search),

@@ -1,10 +1,13 @@
 // Starts of searches and of differences: usual, extreme and refused, and such that a rare thing comes about.
 
+use crate::gradients::{numeric, Gradients};
 use crate::objectives;
 use crate::points::{coordinates, point, REFUSED_COORDINATES};
 use crate::random::Random;
-use crate::rust::{Search, Start};
-use crate::tellers::{numeric, Gradients, Manner, Script, Teller};
+use crate::rust::Start;
+use crate::script::{Manner, Script};
+use crate::search::Search;
+use crate::tellers::Teller;
 
 const NAN: f64 = f64::NAN;
 const INF: f64 = f64::INFINITY;
@@ -123,7 +126,8 @@ fn on_a_line(random: &mut Random, s: f64) -> Search {
     let (c1, c2) = (1e-4, 0.9);
     let gradients = random.chance(70);
     let (max_evals, step_max, initial_step) = (random.pick(&[2, 5, 30]), 1.7e308, 1.0);
-    Search { gradients, max_evals, c1, c2, step_max, initial_step, f0: 0.0, x0: vec![0.0], d: vec![1.0], g: vec![s] }
+    let (x0, d, g) = (vec![0.0], vec![1.0], vec![s]);
+    Search { gradients, max_evals, c1, c2, step_max, initial_step, x0, d, g, ..Search::default() }
 }
 
 // Start slope, c1, first step, and values and slopes by which the cubic is left for the midpoint in ways that chance seldom

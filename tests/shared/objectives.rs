@@ -76,7 +76,7 @@ impl Objective {
         }
     }
 
-    fn about_centre(&self, x: &[f64]) -> Vec<f64> {
+    pub fn about_centre(&self, x: &[f64]) -> Vec<f64> {
         x.iter().zip(self.centre.iter().cycle()).map(|(v, c)| v - c).collect()
     }
 

@@ -1,9 +1,9 @@
--- `simplex_sample::part` is safe and ends: each turn passes a byte. Assumes nothing.
+-- `fits_sample::part` is safe and ends: each turn passes a byte. Assumes nothing.
 use borrow.Author.Needs.{needs}
 use Prim.Native.Nat.{_-_, _≤_}
 use lib.ListN.{length}
-use Rattle.simplex_sample.proofs.part.Statement.{statement}
-use Rattle.simplex_sample.proofs.part.Tie as tie
+use Rattle.fits_sample.proofs.part.Statement.{statement}
+use Rattle.fits_sample.proofs.part.Tie as tie
 
 abbrev Inv-loop : tie.InvT-loop
 Inv-loop bytes state₀ i₀ state i = i ≤ length bytes

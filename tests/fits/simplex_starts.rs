@@ -1,9 +1,9 @@
-// Starts of fits: usual, extreme and refused options and points, and starts made so that a rare thing comes about.
+// Starts of simplex fits: usual, extreme and refused options and points, and starts made so that a rare thing comes about.
 
 use crate::objectives::{self, Failing, Objective, Shape, TIED, ZEROS, ZEROS_AND_MORE};
 use crate::points::{coordinates, point, REFUSED_COORDINATES};
 use crate::random::Random;
-use crate::rust::Start;
+use crate::rust::Simplex;
 
 const NAN: f64 = f64::NAN;
 const INF: f64 = f64::INFINITY;
@@ -21,7 +21,7 @@ const REFUSED_RESTARTS: &[u64] = &[101, 101, 1 << 32, u64::MAX];
 
 // A start, its objective, and after how many calls the fit is left where it has not ended.
 pub struct Drawn {
-    pub start: Start,
+    pub start: Simplex,
     pub objective: Objective,
     pub most: usize,
 }
@@ -37,11 +37,11 @@ fn allowance(random: &mut Random, extreme: bool) -> Option<u64> {
 }
 
 // Options and a point that the engine takes.
-fn taken(random: &mut Random) -> Start {
+fn taken(random: &mut Random) -> Simplex {
     let extreme = random.chance(35);
     let n = coordinates(random);
     let (tolerances, steps) = if extreme { (EXTREME_TOLERANCES, EXTREME_STEPS) } else { (USUAL_TOLERANCES, USUAL_STEPS) };
-    Start {
+    Simplex {
         x_tol: random.pick(tolerances),
         f_tol: random.pick(tolerances),
         initial_step: random.pick(steps),
@@ -54,7 +54,7 @@ fn taken(random: &mut Random) -> Start {
 }
 
 // One to three things that are refused.
-fn refused(random: &mut Random) -> Start {
+fn refused(random: &mut Random) -> Simplex {
     let mut start = taken(random);
     for _ in 0..1 + random.below(3) {
         match random.below(16) {

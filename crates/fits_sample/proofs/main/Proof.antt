@@ -1,9 +1,9 @@
--- `simplex_sample::main` is safe and ends: each turn has one fewer to come. Assumes nothing.
+-- `fits_sample::main` is safe and ends: each turn has one fewer to come. Assumes nothing.
 use borrow.Author.Needs.{needs}
 use mathlib.Core.Path.{_≡_}
 use lib.ListN.{length}
-use Rattle.simplex_sample.proofs.main.Statement.{statement}
-use Rattle.simplex_sample.proofs.main.Tie as tie
+use Rattle.fits_sample.proofs.main.Statement.{statement}
+use Rattle.fits_sample.proofs.main.Tie as tie
 
 abbrev Inv-loop : tie.InvT-loop
 Inv-loop buf₀ state₀ turns₀ buf state turns = length buf ≡ 4096

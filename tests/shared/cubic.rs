@@ -1,7 +1,7 @@
 // The step that zoom tries, and how it came about. Of the ways to the midpoint one is not counted: the low end's value is
 // finite, since it is f0 or met Armijo, whose bound is never above f0.
 
-use crate::shadow::Trial;
+use crate::search::Trial;
 
 pub const WAYS: &[&str] = &[
     "midpoint: value at hi not finite",

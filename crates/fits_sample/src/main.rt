@@ -1,4 +1,4 @@
-// Holds what the fit program decides to a written sample of simplex fits whose replies are the Rust's
+// Holds what the fit program decides to a written sample of fits of the three jobs whose replies are the Rust's
 // (tests/README.md says how it is made). A row is a line given behind `< `, a line due behind `> `, or
 // empty, which ends a fit. Writes how many rows there are, how many differ, and the number of the first
 // that does (0 for none). A row of another form differs.

@@ -4,6 +4,7 @@
 use crate::choice::{self, Candidate};
 use crate::fits::{fit, Fit};
 use crate::reached::{self, Reached, OF_THE_PIPE};
+use crate::rust::Job;
 
 const POOL: u64 = 20_000;
 const MOST_BYTES: usize = 400_000;
@@ -21,19 +22,24 @@ fn text(fit: &Fit) -> String {
     text + "\n"
 }
 
-fn choose(count: usize, seed: u64) -> Result<Vec<u64>, Reached> {
+// The jobs take turns, as their seeds do.
+fn drawn(seed: u64, jobs: &[Job]) -> Fit {
+    fit(jobs[(seed % jobs.len() as u64) as usize], seed)
+}
+
+fn choose(count: usize, seed: u64, jobs: &[Job]) -> Result<Vec<u64>, Reached> {
     let pool = (0..POOL)
-        .map(|i| fit(seed.wrapping_add(i)))
-        .filter(|fit| !fit.given.entries.is_empty())
+        .map(|i| drawn(seed.wrapping_add(i), jobs))
+        .filter(|fit| !fit.given.entries.is_empty() && jobs.contains(&fit.job))
         .map(|fit| Candidate { seed: fit.seed, bytes: text(&fit).len(), reached: fit.reached })
         .collect();
-    let all = reached::all().into_iter().filter(|name| !OF_THE_PIPE.contains(name)).collect();
+    let all = jobs.iter().flat_map(|job| reached::all(*job)).filter(|name| !OF_THE_PIPE.contains(name)).collect();
     choice::choose(pool, &all, count, SHORT)
 }
 
-pub fn sample(count: usize, seed: u64) -> Result<String, String> {
-    let seeds = choose(count, seed).map_err(|missing| format!("not reached: {missing:?}"))?;
-    let sample: String = seeds.iter().map(|&seed| text(&fit(seed))).collect();
+pub fn sample(count: usize, seed: u64, jobs: &[Job]) -> Result<String, String> {
+    let seeds = choose(count, seed, jobs).map_err(|missing| format!("not reached: {missing:?}"))?;
+    let sample: String = seeds.iter().map(|&seed| text(&drawn(seed, jobs))).collect();
     if seeds.len() < count || sample.len() > MOST_BYTES {
         return Err(format!("{} fits, {} bytes", seeds.len(), sample.len()));
     }

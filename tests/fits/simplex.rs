@@ -1,9 +1,9 @@
-// Which moves a run of the Rust made, as far as the program was told its values, worked out from the points and values of
+// Which moves a simplex fit of the Rust made, as far as the program was told its values, worked out from the points and values of
 // its calls. It classifies and compares nothing with the program; that it ends as the run did, having used every call,
 // shows that it classified rightly.
 
 use crate::reached::Reached;
-use crate::rust::{Outcome, Run, Start};
+use crate::rust::{Outcome, Run, Simplex};
 use tsecon_optim::Termination::{self, MaxFevals, MaxIterations, ObjectiveResolution, SimplexTolerance};
 
 pub const MOVES: &[&str] = &[
@@ -93,7 +93,7 @@ struct Vertex {
 
 struct Shadow<'a> {
     reached: &'a mut Reached,
-    start: &'a Start,
+    start: &'a Simplex,
     run: &'a Run,
     // How many values the program was told, and how many of them were used here.
     told: usize,
@@ -108,14 +108,14 @@ enum Ending {
     Refused,
 }
 
-pub fn note_moves(reached: &mut Reached, start: &Start, run: &Run, told: usize) {
+pub fn note_moves(reached: &mut Reached, start: &Simplex, run: &Run, told: usize) {
     let best = Vertex { x: start.x0.clone(), f: f64::INFINITY };
     let mut shadow = Shadow { reached, start, run, told, calls: 0, iterations: 0, best, runs: 0 };
     let ending = shadow.fit();
     shadow.note_ending(&ending);
     let as_run = match (&ending, &run.outcome) {
-        (None, _) => told < run.points.len(),
-        (Some(_), _) if told < run.points.len() => false,
+        (None, _) => told < run.calls.len(),
+        (Some(_), _) if told < run.calls.len() => false,
         (Some(Ending::Reason(t)), Outcome::Result(r)) => *t == r.termination && shadow.iterations == r.iterations as u64,
         (Some(Ending::Refused), Outcome::Refusal(20, 0)) => true,
         _ => false,
@@ -155,8 +155,8 @@ impl Shadow<'_> {
 
     // The next call, or nothing where the program was told no more.
     fn ask(&mut self) -> Option<Vertex> {
-        let value = *self.run.values[..self.told].get(self.calls)?;
-        let x = self.run.points[self.calls].clone();
+        let call = self.run.calls[..self.told].get(self.calls)?;
+        let (value, x) = (call.told[0], call.point.clone());
         self.calls += 1;
         self.mark(value.is_nan(), "told NaN");
         self.mark(value == f64::INFINITY, "told +infinity");
