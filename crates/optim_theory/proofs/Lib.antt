@@ -14,6 +14,7 @@ pub mod DescentAnswers
 pub mod DescentStarts
 pub mod Engine
 pub mod EngineRecords
+pub mod Mission
 pub mod SearchRelated
 pub mod SearchAnswers
 pub mod SearchStarts

@@ -2,4 +2,5 @@ pub mod Replies
 pub mod Jobs
 pub mod Follows
 pub mod Engine
+pub mod Mission
 pub mod Search
