@@ -73,7 +73,30 @@ record Facts : Type 0 where
   squares : AnsweredBy square (run code (dense (some 0)) openingAnswers .exchanges ++ run code (dense none) wholeAnswers .exchanges)
 
 facts : Facts
-unfolding toBits ofBits ofFields ofInt span climb size odd units round neg isNan sum add sub mul div lt le eq values.absOf values.finiteOf values.toleranceOf values.positiveOf values.maxOf values.minOf points.fromSliceOf points.dotOf points.infNormOf points.allFiniteOf points.plusScaledOf points.minusScaledOf points.differenceOf points.additionOf points.scaledOf points.negationOf points.rowDotOf points.matVecOf lists.first protocol.readOf records.wolfeOptionsOf records.idleOf records.blankOf records.gradientJobOf records.validSimplexOf records.validSearchPartOf records.knownRefusalOf records.validEndingOf records.validOptionsOf records.validModelOf records.validDescentOf records.validOf stands.overOf stands.gradientDueOf stands.terminationOf stands.resultOf stands.standingSimplexOf stands.descentTerminationOf stands.descentConvergedOf stands.descentResultOf stands.standingDescentOf stands.standingOf firsts.excessOf firsts.pastLimitsOf firsts.simplexRefusalOf firsts.limitOf firsts.simplexLimitsOf firsts.simplexRecordOf firsts.gradientPastLimitsOf firsts.orderedOf firsts.noMemoryOf firsts.gradientRefusalOf firsts.gradientLimitsOf firsts.keptOptionsOf firsts.gradientMarkOf firsts.gradientRecordOf answers.repeatsOf answers.steppedOf answers.gradedOf answers.takenOf answers.takenGradientOf answers.suitsOf answers.heardOf answers.answerOf starts.simplexOf starts.gradientOf starts.bfgsOf starts.lbfgsOf vertexOrder.inOrder method.beta method.gamma method.delta method.displaced method.resolution method.better vertices.putOf vertices.insertedOf vertices.sortedOf vertices.summedOf vertices.centroidOf vertices.cornerOf vertices.sizeOf vertices.anyFiniteOf vertices.flatOf vertices.convergedOf neldermead.orderedOf neldermead.trialOf neldermead.reflectOf neldermead.reasonOf neldermead.doneOf neldermead.testedOf neldermead.headedOf neldermead.buildOf neldermead.settledOf neldermead.builtOf neldermead.toldOf neldermead.startOf order.precedesOf order.keyOf trials.startOf trials.armijoOf trials.curvatureOf lines.lineFromOf lines.optionsRefusalOf lines.countsRefusalOf lines.lineRefusalOf linesearch.pointAtOf linesearch.evaluatedOf linesearch.precedingOf linesearch.risenOf linesearch.lowerOf linesearch.keepOf linesearch.successOf linesearch.evalOf linesearch.bracketOf linesearch.bracketedOf linesearch.decidedOf linesearch.gradedOf linesearch.evalGradientOf linesearch.valuedOf linesearch.begunOf linesearch.probeOf linesearch.toldOf linesearch.toldGradientOf hessian.diagonalOf hessian.updateRowOf hessian.updateRowsOf hessian.preparedOf hessian.denseUpdateOf hessian.denseDirectionOf hessian.downOf hessian.downFrom hessian.allDownOf hessian.upOf hessian.allUpOf hessian.limitedDirectionOf hessian.roomOf hessian.gammaOf hessian.limitedUpdateOf hessian.noPairsOf hessian.blankOf hessian.newModelOf hessian.directionOf hessian.updateOf quasinewton.storesOf quasinewton.smallDecreaseOf quasinewton.smallStepOf quasinewton.initialStepOf quasinewton.notDescendingOf quasinewton.soughtOf quasinewton.searchedOf quasinewton.directedOf quasinewton.headedOf quasinewton.storedOf quasinewton.steppedOf quasinewton.succeededOf quasinewton.settledOf quasinewton.asksOf quasinewton.gradientDueOf quasinewton.gradedOf quasinewton.valuedOf quasinewton.probeOf quasinewton.toldOf quasinewton.toldGradientOf quasinewton.idleOf quasinewton.startOf
+unfolding toBits ofBits ofFields ofInt span climb size odd units round neg isNan sum add sub mul div lt le eq values.absOf values.finiteOf
+    values.toleranceOf values.positiveOf values.maxOf values.minOf points.fromSliceOf points.dotOf points.infNormOf points.allFiniteOf
+    points.plusScaledOf points.minusScaledOf points.differenceOf points.additionOf points.scaledOf points.negationOf points.rowDotOf points.matVecOf
+    lists.first protocol.readOf records.wolfeOptionsOf records.idleOf records.blankOf records.gradientJobOf records.validSimplexOf
+    records.validSearchPartOf records.knownRefusalOf records.validEndingOf records.validOptionsOf records.validModelOf records.validDescentOf
+    records.validOf stands.overOf stands.gradientDueOf stands.terminationOf stands.resultOf stands.standingSimplexOf stands.descentTerminationOf
+    stands.descentConvergedOf stands.descentResultOf stands.standingDescentOf stands.standingOf firsts.excessOf firsts.pastLimitsOf
+    firsts.simplexRefusalOf firsts.limitOf firsts.simplexLimitsOf firsts.simplexRecordOf firsts.gradientPastLimitsOf firsts.orderedOf firsts.noMemoryOf
+    firsts.gradientRefusalOf firsts.gradientLimitsOf firsts.keptOptionsOf firsts.gradientMarkOf firsts.gradientRecordOf answers.repeatsOf
+    answers.steppedOf answers.gradedOf answers.takenOf answers.takenGradientOf answers.suitsOf answers.heardOf answers.answerOf starts.simplexOf
+    starts.gradientOf starts.bfgsOf starts.lbfgsOf vertexOrder.inOrder method.beta method.gamma method.delta method.displaced method.resolution
+    method.better vertices.putOf vertices.insertedOf vertices.sortedOf vertices.summedOf vertices.centroidOf vertices.cornerOf vertices.sizeOf
+    vertices.anyFiniteOf vertices.flatOf vertices.convergedOf neldermead.orderedOf neldermead.trialOf neldermead.reflectOf neldermead.reasonOf
+    neldermead.doneOf neldermead.testedOf neldermead.headedOf neldermead.buildOf neldermead.settledOf neldermead.builtOf neldermead.toldOf
+    neldermead.startOf order.precedesOf order.keyOf trials.startOf trials.armijoOf trials.curvatureOf lines.lineFromOf lines.optionsRefusalOf
+    lines.countsRefusalOf lines.lineRefusalOf linesearch.pointAtOf linesearch.evaluatedOf linesearch.precedingOf linesearch.risenOf linesearch.lowerOf
+    linesearch.keepOf linesearch.successOf linesearch.evalOf linesearch.bracketOf linesearch.bracketedOf linesearch.decidedOf linesearch.gradedOf
+    linesearch.evalGradientOf linesearch.valuedOf linesearch.begunOf linesearch.probeOf linesearch.toldOf linesearch.toldGradientOf hessian.diagonalOf
+    hessian.updateRowOf hessian.updateRowsOf hessian.preparedOf hessian.denseUpdateOf hessian.denseDirectionOf hessian.downOf hessian.downFrom
+    hessian.allDownOf hessian.upOf hessian.allUpOf hessian.limitedDirectionOf hessian.roomOf hessian.gammaOf hessian.limitedUpdateOf hessian.noPairsOf
+    hessian.blankOf hessian.newModelOf hessian.directionOf hessian.updateOf quasinewton.storesOf quasinewton.smallDecreaseOf quasinewton.smallStepOf
+    quasinewton.initialStepOf quasinewton.notDescendingOf quasinewton.soughtOf quasinewton.searchedOf quasinewton.directedOf quasinewton.headedOf
+    quasinewton.storedOf quasinewton.steppedOf quasinewton.succeededOf quasinewton.settledOf quasinewton.asksOf quasinewton.gradientDueOf
+    quasinewton.gradedOf quasinewton.valuedOf quasinewton.probeOf quasinewton.toldOf quasinewton.toldGradientOf quasinewton.idleOf quasinewton.startOf
 facts =
     record {
       runs = record { simplex-run = refl; bfgs-run = refl; lbfgs-run = refl; stopped-run = refl };

@@ -5,13 +5,12 @@ use mathlib.Core.Path.{_≡_}
 use mathlib.Core.Bool.{true, false}
 use mathlib.Core.List.{List, [], _∷_}
 use mathlib.Core.Option.{Option, none, some}
-use lib.Ieee.{Float}
 use Rattle.float.specs.Binary64.{bits}
 use Rattle.protocol.specs.declared.Kind.{Kind}
 use Rattle.protocol.specs.declared.Kind.the-variants.{Value, Gradient}
 use Rattle.protocol.specs.declared.GradientOptions.{GradientOptions}
 use Rattle.protocol.specs.declared.Termination.the-variants.{GradientTolerance, SimplexTolerance, MaxIterations}
-use Rattle.protocol.specs.Protocol.{letter, Question, Answer, Result, fitted, Reply, ask, ended, Job, simplex, bfgs, lbfgs, Fit}
+use Rattle.protocol.specs.Protocol.{letter, Answer, Result, fitted, Reply, ask, ended, Job, simplex, bfgs, lbfgs, Fit}
 use Rattle.protocol.specs.Claim.{run, OfOne, OfTwo}
 use Rattle.protocol.specs.Example.{Reaches, Pair}
 use Rattle.optim_theory.specs.Engine.{code}
