@@ -17,7 +17,7 @@ use Rattle.protocol.specs.declared.Kind.the-variants.{Value, Gradient}
 use Rattle.protocol.specs.Protocol.{letter, Answer, Reply, refused}
 use Rattle.protocol.specs.Claim.{wanted}
 use Rattle.protocol.specs.Ask.{Ask, finish, query, _>>=_}
-use Rattle.protocol.specs.Rounds.{Ending, atHead, stops, fails, Limits, openAt, over, Kept, kept, settle, put, standing, accept, fresh, answerTo}
+use Rattle.protocol.specs.Rounds.{Ending, atHead, stops, fails, Limits, openAt, over, Kept, kept, put, standing, accept, fresh, answerTo}
 use Rattle.protocol.specs.Fits.{mapText}
 use Rattle.neldermead_theory.specs.Algorithm.{nelderMead}
 use Rattle.quasinewton.specs.declared.Descent.{Descent}

@@ -1,9 +1,8 @@
 -- After an accepted answer a record of a gradient fit has the rest of its text to do, and stays sound and within its bounds: `next-as`, `made-sound`, `made-rest`, `made-within`. Assumes nothing.
-use Prim.Native.Nat.{ℕ, _+_, _≤_, _<_}
+use Prim.Native.Nat.{ℕ, _+_, _≤_}
 use native.Mathlib.Nat.{add-zero, le-trans}
 use native.Mathlib.Omega.{arith}
 use mathlib.Core.Path.{_≡_, refl, sym, _∙_, ap, subst}
-use mathlib.Core.Logic.{_⊎_, inl, inr, ⊎-elim}
 use mathlib.Core.Bool.{Bool, true, false, not, cond, true≢false}
 use mathlib.Core.List.{List}
 use lib.Dec.{eqb}
@@ -16,13 +15,11 @@ use Rattle.protocol.specs.declared.Kind.the-variants.{Value, Gradient}
 use Rattle.protocol.specs.Protocol.{readOf}
 use Rattle.protocol.specs.Claim.{Limit, limit, unlimited, ofKind}
 use Rattle.protocol.specs.Ask.{query}
-use Rattle.protocol.specs.Rounds.{Limits}
 use Rattle.protocol.specs.Bounds.{ofBoth}
 use Rattle.linesearch.specs.declared.Evaluation.{Evaluation}
 use Rattle.linesearch.specs.Step as linesearch
 use Rattle.hessian.specs.declared.Model.{Model}
 use Rattle.hessian.specs.Step.{limitedUpdateOf, denseUpdateOf, updateOf}
-use Rattle.hessian.specs.Ties as hessian
 use Rattle.quasinewton.specs.declared.Descent.{Descent}
 use Rattle.quasinewton.specs.declared.Fixed.{Fixed}
 use Rattle.quasinewton.specs.declared.Moved.{Moved}
@@ -32,13 +29,13 @@ use Rattle.vector.specs.Points.{differenceOf, allFiniteOf}
 use Rattle.quasinewton_theory.specs.Follows.{toDo, wantsGradient, kindOf, heardOf, settled, AllowsFevals, Allows, Shaped}
 use Rattle.quasinewton_theory.proofs.Follows.{gradient-follows}
 use Rattle.records.specs.declared.Record.{Record}
-use Rattle.records.specs.Record.{mostAllowed, noLimit, simplexMark, searchMark, gradientFixedOf, gradientJobOf}
+use Rattle.records.specs.Record.{noLimit, gradientFixedOf}
 use Rattle.stands.specs.Standing.{gradientDueOf}
-use Rattle.optim.specs.Answer.{valuedOf, slopedOf, steppedOf, gradedOf}
+use Rattle.optim.specs.Answer.{steppedOf, gradedOf}
 use Rattle.optim_theory.proofs.Refusals.{Named, settled-named, told-named, told-gradient-named}
 use Rattle.optim_theory.proofs.Replies.{no-simplex, no-search}
-use Rattle.optim_theory.proofs.DescentRelated.{Text, restOf, NoPairs, Sound, Low, asks, due-as}
-use Rattle.optim_theory.proofs.DescentBounds.{Budget, bounding, mostOf, bound-low, Within, settled-keeps}
+use Rattle.optim_theory.proofs.DescentRelated.{restOf, NoPairs, Sound, Low, asks, due-as}
+use Rattle.optim_theory.proofs.DescentBounds.{Budget, bounding, bound-low, Within, settled-keeps}
 
 -- ---- the model of a record that has gone on
 

@@ -1,16 +1,15 @@
 -- What ties a record of a gradient fit to the engine of the texts (`Sound`): such a record is in range (`valid`), and shows what its text shows (`shows`). Assumes nothing.
-use Prim.Native.Nat.{ℕ, _+_, _≤_, _<_}
+use Prim.Native.Nat.{ℕ, _+_, _≤_}
 use native.Mathlib.Numerals.{add-one}
 use native.Mathlib.Omega.{arith}
 use mathlib.Core.Path.{_≡_, refl, sym, _∙_, ap, subst}
-use mathlib.Core.Logic.{_⊎_, inl, inr, ⊎-elim}
+use mathlib.Core.Logic.{_⊎_, inr, ⊎-elim}
 use mathlib.Core.Bool.{Bool, true, false, not, cond, true≢false}
 use mathlib.Core.List.{List}
 use borrow.Author.Tests.{le-ltb, le-leb, lt-leb, leb-false, ne-eqb, eqb-true, eqb-false}
 use lib.Dec.{ltb, leb, eqb}
 use lib.Ieee.{Float}
 use Rattle.vector.specs.Lists.{first}
-use Rattle.protocol.specs.declared.Kind.{Kind}
 use Rattle.protocol.specs.declared.Kind.the-variants.{Value, Gradient}
 use Rattle.protocol.specs.declared.Termination.the-variants.{MaxIterations, MaxFevals, LineSearchFailed, GradientFailed}
 use Rattle.protocol.specs.Protocol.{converges, fitted, Reply, ask, ended, refused}
@@ -20,7 +19,6 @@ use Rattle.protocol.specs.Fits.{mapText}
 use Rattle.hessian.specs.declared.Model.{Model}
 use Rattle.hessian.specs.Ties as hessian
 use Rattle.linesearch.specs.Step.{asksDifference, failed}
-use Rattle.quasinewton.specs.declared.Descent.{Descent}
 use Rattle.quasinewton.specs.declared.Fixed.{Fixed}
 use Rattle.quasinewton.specs.Step as quasinewton
 use Rattle.quasinewton.specs.Step.{searching, byRefusal, probeOf, asksOf}
@@ -29,7 +27,7 @@ use Rattle.quasinewton_theory.specs.Follows.{positionOf, reasonOf, endingOf, to
 use Rattle.quasinewton_theory.proofs.Follows.{gradient-follows}
 use Rattle.fits_theory.specs.Fits.{allFits}
 use Rattle.records.specs.declared.Record.{Record}
-use Rattle.records.specs.Record.{most, mostAllowed, mostEvals, noLimit, simplexMark, searchMark, gradientFixedOf, gradientJobOf, validSearchPartOf, validEndingOf, validOptionsOf, validModelOf, validDescentOf, validOf}
+use Rattle.records.specs.Record.{most, mostAllowed, mostEvals, noLimit, gradientFixedOf, gradientJobOf, validSearchPartOf, validEndingOf, validOptionsOf, validModelOf, validDescentOf, validOf}
 use Rattle.stands.specs.Standing.{overOf, gradientDueOf, descentTerminationOf, descentConvergedOf, descentResultOf, standingDescentOf, standingOf}
 use Rattle.optim_theory.proofs.Refusals.{Named}
 use Rattle.optim_theory.proofs.Replies.{no-simplex, no-search}

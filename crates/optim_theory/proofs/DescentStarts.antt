@@ -22,9 +22,9 @@ use Rattle.protocol.specs.declared.GradientOptions.{GradientOptions}
 use Rattle.protocol.specs.declared.Refusal.{Refusal}
 use Rattle.protocol.specs.Protocol.{refusal, Reply, Job, bfgs, lbfgs, Fit}
 use Rattle.protocol.specs.Claim.{NotRefused, limit}
-use Rattle.protocol.specs.Ask.{Ask, finish, query, _>>=_}
+use Rattle.protocol.specs.Ask.{finish, _>>=_}
 use Rattle.protocol.specs.PastLimits.{excess, optionsPast, pastLimits}
-use Rattle.protocol.specs.Rounds.{Ending, fails, Limits, limitsOf, put, begun, engine}
+use Rattle.protocol.specs.Rounds.{fails, Limits, limitsOf, put, engine}
 use Rattle.protocol.specs.Bounds.{ofBoth}
 use Rattle.protocol.specs.Fits.{mapText}
 use Rattle.hessian.specs.Algorithm.{one}
@@ -33,19 +33,19 @@ use Rattle.hessian.proofs.Ties.{hessian-ties}
 use Rattle.quasinewton.specs.declared.Fixed.{Fixed}
 use Rattle.quasinewton.specs.Step.{startOf}
 use Rattle.objective.specs.Step.{begunOf}
-use Rattle.quasinewton_theory.specs.Algorithm.{Position, opened, opening, begunWith}
+use Rattle.quasinewton_theory.specs.Algorithm.{opened, opening, begunWith}
 use Rattle.quasinewton_theory.proofs.Follows.{gradient-follows}
 use Rattle.fits_theory.specs.Fits.{allFits}
 use Rattle.records.specs.declared.Record.{Record}
 use Rattle.records.specs.Record.{mostAllowed, mostEvals, noLimit, noOptions, idleOf, blankOf, gradientFixedOf, gradientJobOf}
 use Rattle.stands.specs.Standing.{refusedOf, standingOf}
-use Rattle.starts.specs.Starts.{excessOf, limitOf, gradientPastLimitsOf, orderedOf, noMemoryOf, gradientRefusalOf, gradientLimitsOf, keptOptionsOf, gradientMarkOf, gradientRecordOf}
+use Rattle.starts.specs.Starts.{limitOf, gradientPastLimitsOf, orderedOf, noMemoryOf, gradientRefusalOf, gradientLimitsOf, keptOptionsOf, gradientMarkOf, gradientRecordOf}
 use Rattle.optim.specs.Start.{gradientOf, bfgsOf, lbfgsOf}
 use Rattle.optim_theory.specs.Engine.{allowance, allowances, startCode}
 use Rattle.optim_theory.proofs.Refusals.{start-named}
 use Rattle.optim_theory.proofs.Replies.{stands-keeps}
 use Rattle.optim_theory.proofs.EngineStarts.{excess-as, whole, finite-as}
-use Rattle.optim_theory.proofs.DescentRelated.{Text, restOf, shownAs, NoPairs, Sound, shows}
+use Rattle.optim_theory.proofs.DescentRelated.{Text, restOf, NoPairs, Sound, shows}
 use Rattle.optim_theory.proofs.DescentBounds.{Budget, bounding, Within}
 use Rattle.optim_theory.proofs.DescentMoves.{AsLimit, Bounded}
 use Rattle.optim_theory.proofs.DescentAnswers.{Texts, Relates}

@@ -1,13 +1,13 @@
--- The code's engine follows the texts of all three fits, and so replies as they do (`as-algorithm`), has the mission's 3 (`code-claim`) and their bounds
--- (`code-at-most`). Assumes nothing.
+-- The code's engine follows the texts of all three fits, and so replies as they do (`as-algorithm`), has the mission's 3 (`code-claim`), their bounds
+-- (`code-at-most`) and their refusals (`code-refusals`). Assumes nothing.
 use Prim.Native.Nat.{ℕ, _≤_}
 use mathlib.Core.Path.{_≡_, sym, _∙_, subst}
 use mathlib.Core.Logic.{_⊎_, inl, inr}
-use mathlib.Core.List.{List}
+use mathlib.Core.List.{List, List·Memᴰ}
 use mathlib.Core.Option.{Option}
 use lib.ListN.{length}
 use lib.Ieee.{Float}
-use Rattle.protocol.specs.Protocol.{Question, Answer, Job, simplex, bfgs, lbfgs, Fit}
+use Rattle.protocol.specs.Protocol.{Question, Answer, Reply, Job, simplex, bfgs, lbfgs, Fit}
 use Rattle.protocol.specs.Claim.{F64s, GivenF64s, run, NotRefused, Started}
 use Rattle.protocol.specs.Rounds.{Kept}
 use Rattle.protocol.specs.Bounds.{questionsOf}
@@ -23,7 +23,7 @@ use Rattle.quasinewton_theory.specs.Algorithm.{quasiNewton}
 use Rattle.fits_theory.specs.Fits.{allFits, reference}
 use Rattle.fits_theory.proofs.Fits.{mission, fits-claim}
 use Rattle.records.specs.declared.Record.{Record}
-use Rattle.optim_theory.specs.Engine.{startCode, answerCode, code, CodeClaim, CodeAtMost, AsAlgorithm}
+use Rattle.optim_theory.specs.Engine.{startCode, answerCode, code, CodeClaim, CodeAtMost, AsAlgorithm, CodeRefusals}
 use Rattle.optim_theory.proofs.Textual.{textual-laws}
 use Rattle.optim_theory.proofs.EngineRelated as simplexes
 use Rattle.optim_theory.proofs.EngineRelated.{gradientSteps, allSteps, Place}
@@ -126,3 +126,8 @@ code-at-most =
       with-gradients = λ κ f o I j e i n l w. fewer f l (questionsOf κ) _ n w (G .with-gradients κ f o I j e i l);
       without-gradients = λ f o I j e i n l w. fewer f l length _ n w (G .without-gradients f o I j e i l);
     }
+
+-- the text's refusals are the code's
+pub code-refusals : CodeRefusals
+code-refusals f l n w y m =
+    fits-claim .refusals f l (subst NotRefused (starts f .0) n) w y (subst (λ (ys : List Reply). List·Memᴰ y ys) (as-algorithm .replies f l n w) m)

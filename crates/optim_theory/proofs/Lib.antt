@@ -15,6 +15,7 @@ pub mod DescentStarts
 pub mod Engine
 pub mod EngineRecords
 pub mod Mission
+pub mod NotVacuous
 pub mod SearchRelated
 pub mod SearchAnswers
 pub mod SearchStarts

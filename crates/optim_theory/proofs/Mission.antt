@@ -1,8 +1,8 @@
 -- The mission's 3 as it is spelled out for lists of calls, from `code-claim`: `spelled-out`. Assumes nothing.
 use Prim.Native.Nat.{ℕ}
 use mathlib.Core.Path.{_≡_, refl, sym, _∙_, ap, subst, subst₂}
-use mathlib.Core.Logic.{_⊎_, ⊎-elim}
-use mathlib.Core.Bool.{Bool, true, false, cond, true≢false}
+use mathlib.Core.Logic.{⊎-elim}
+use mathlib.Core.Bool.{Bool, true, false, cond}
 use mathlib.Core.List.{List, [], _∷_, _++_, append-assoc, append-nil, List·Memᴰ, List·Memᴰ·head, List·Memᴰ·tail, List·Memᴰ·cases-cons, List·Memᴰ·not-nil, List·Memᴰ·append-cases, List·Memᴰ·eq-of-singleton, Memᴰ·append-left, Memᴰ·append-right}
 use mathlib.Core.Option.{none, some}
 use lib.Ieee.{Float}
@@ -10,10 +10,9 @@ use Rattle.float.specs.Binary64.{NotAbove}
 use Rattle.protocol.specs.declared.SimplexOptions.{SimplexOptions}
 use Rattle.protocol.specs.declared.GradientOptions.{GradientOptions}
 use Rattle.protocol.specs.declared.Allowances.{Allowances}
-use Rattle.protocol.specs.declared.Kind.{Kind}
 use Rattle.protocol.specs.declared.Kind.the-variants.{Value}
 use Rattle.protocol.specs.Protocol.{Question, Answer, Result, fitted, Reply, ask, ended, refused, readOf, Job, simplex, bfgs, lbfgs, Fit}
-use Rattle.protocol.specs.Claim.{accepted, Exchange, exchange, questionIn, Dialogue, given, giveAll, begin, run, NotRefused, Started, Brings, Told, IsSimplex, ByPointAlone, OpensWith, OfOne, OfTwo, ForAllowance}
+use Rattle.protocol.specs.Claim.{accepted, Exchange, exchange, questionIn, Dialogue, given, giveAll, begin, run, NotRefused, Started, Brings, IsSimplex, ByPointAlone, OpensWith, OfOne}
 use Rattle.records.specs.declared.Record.{Record}
 use Rattle.starts.specs.Starts.{excessOf, limitOf, pastLimitsOf, simplexRefusalOf, simplexLimitsOf, simplexRecordOf, gradientPastLimitsOf, gradientRefusalOf, gradientLimitsOf, gradientRecordOf}
 use Rattle.optim.specs.Start.{simplexOf, gradientOf, bfgsOf, lbfgsOf}

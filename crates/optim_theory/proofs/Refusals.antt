@@ -1,6 +1,6 @@
 -- The refusals that end a gradient fit are of those that a record can hold, whatever the record and the answer: `told-named`, `told-gradient-named`, `settled-named`. Assumes nothing.
 use Prim.Native.Nat.{ℕ}
-use mathlib.Core.Path.{_≡_, refl, sym, subst}
+use mathlib.Core.Path.{_≡_, refl, subst}
 use mathlib.Core.Bool.{Bool, true, false, not, cond}
 use mathlib.Core.List.{List}
 use native.Mathlib.Omega.{arith}
@@ -27,7 +27,7 @@ use Rattle.quasinewton.specs.declared.Fixed.{Fixed}
 use Rattle.quasinewton.specs.declared.Descent.{Descent}
 use Rattle.quasinewton.specs.declared.Moved.{Moved}
 use Rattle.quasinewton.specs.Step as step
-use Rattle.quasinewton.specs.Step.{firstValue, firstDifferences, searching, byRefusal, smallDecreaseOf, smallStepOf, initialStepOf, notDescendingOf, refusedBy, withLine, withSearch, valuedAt, moved, soughtOf, searchedOf, steepestOf, directedOf, headedOf, lowerOf, missedOf, steppedOf, storedOf, succeededOf, settledOf, gradedOf, differingOf, valuedOf, toldOf, toldGradientOf, startOf}
+use Rattle.quasinewton.specs.Step.{firstValue, firstDifferences, searching, byRefusal, smallDecreaseOf, smallStepOf, initialStepOf, notDescendingOf, refusedBy, withLine, withSearch, valuedAt, soughtOf, searchedOf, steepestOf, directedOf, headedOf, lowerOf, missedOf, steppedOf, storedOf, succeededOf, settledOf, gradedOf, differingOf, valuedOf, toldOf, toldGradientOf, startOf}
 use Rattle.records.specs.Record.{knownRefusalOf, validEndingOf}
 
 -- a refusal that ended the fit is one of those

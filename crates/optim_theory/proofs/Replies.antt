@@ -130,7 +130,10 @@ known-ends k d = go (eqb k 5) refl (eqb k 12) refl (not (eqb d 0)) (ltb k 6) ref
     go false i false j false false l false m false n false o z = absurd (true≢false (sym z))
 
 known-fine : (r q : Record) (k d : ℕ) → knownRefusalOf k d ≡ true → Fine r (refused k d, q)
-known-fine r q k d e = ending r q k d (ap (λ (b : Bool). b || (eqb k 20 && eqb d 0)) e) (known-ends k d e)
+known-fine r q k d e = ending r q k d (first (knownRefusalOf k d) _ e) (known-ends k d e)
+  where
+    first : (a b : Bool) → a ≡ true → a || b ≡ true
+    first a b h = ap (λ (c : Bool). c || b) h
 
 -- a record of a gradient fit holds none but those
 abbrev Holds : Record → Type 0

@@ -3,7 +3,7 @@
 use Prim.Native.Nat.{ℕ, _≤_}
 use mathlib.Core.Path.{_≡_}
 use mathlib.Core.Bool.{true, false}
-use mathlib.Core.List.{List}
+use mathlib.Core.List.{List, List·Memᴰ}
 use mathlib.Core.Option.{Option, none, some}
 use lib.ListN.{length}
 use lib.Ieee.{Float}
@@ -21,7 +21,8 @@ use Rattle.neldermead_theory.specs.Follows.{EveryPoint}
 use Rattle.hessian.specs.Ties.{ZerosPast}
 use Rattle.quasinewton_theory.specs.Counts.{withGradients, withoutGradients, GradientJob}
 use Rattle.quasinewton_theory.specs.Follows.{ZeroPast}
-use Rattle.fits_theory.specs.Fits.{reference}
+use Rattle.fits_theory.specs.Refusals.{Replied}
+use Rattle.fits_theory.specs.Fits.{allFits, reference, EndedBy}
 use Rattle.records.specs.declared.Record.{Record}
 use Rattle.records.specs.Record.{validOf}
 use Rattle.optim.specs.Answer.{answerOf}
@@ -91,3 +92,7 @@ pub record AsAlgorithm : Type 0 where
   pub questions : (f : Fit) (l : List Answer) → Started code f → GivenF64s l → run code f l .questions ≡ run reference f l .questions
   pub exchanges : (f : Fit) (l : List Answer) → Started code f → GivenF64s l → run code f l .exchanges ≡ run reference f l .exchanges
   pub replies : (f : Fit) (l : List Answer) → Started code f → GivenF64s l → run code f l .replies ≡ run reference f l .replies
+
+-- a reply to a fit that was started is refused with 15, 16 or 17, or with what can end a fit; a gradient fit ends with 6, 7, 12 for x, 18 or 19 alone
+abbrev pub CodeRefusals : Type 0
+CodeRefusals = (f : Fit) (l : List Answer) → Started code f → GivenF64s l → (y : Reply) → List·Memᴰ y (run code f l .replies) → Replied allFits EndedBy (f .job) y
