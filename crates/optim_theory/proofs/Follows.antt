@@ -27,7 +27,7 @@ use Rattle.optim_theory.specs.Jobs.{shown}
 use Rattle.optim_theory.specs.Follows.{asTold, differencesEnding, rest, after, JobFollows}
 
 -- a record that is not at its end has a coordinate to come
-short : (r : Record) → Sized (r .n) (r .diff) → (r .diff .at ≡ r .n → ⊥) → r .diff .at < r .n
+pub short : (r : Record) → Sized (r .n) (r .diff) → (r .diff .at ≡ r .n → ⊥) → r .diff .at < r .n
 short r h d = less (r .diff .at) (r .n) (h .within) d
   where
     less : (a n : ℕ) → a ≤ n → (a ≡ n → ⊥) → a < n
@@ -43,7 +43,7 @@ stands r bare h = rw (ne-eqb _ _ (bare .simplex), ne-eqb _ _ (bare .search), bar
     at-end false e = rw e (sym (ap (shown differencesEnding (r .accepted)) (follows asTold .follows (r .n) (r .diff) h (short r h (eqb-false _ _ e)))))
 
 -- the step is that of differences
-steps : (r : Record) (v : Float) → Other r → steppedOf r v ≡ valuedOf r (toldOf (r .diff) v) (r .simplex) (r .descent) (r .model)
+pub steps : (r : Record) (v : Float) → Other r → steppedOf r v ≡ valuedOf r (toldOf (r .diff) v) (r .simplex) (r .descent) (r .model)
 unfolding steppedOf
 steps r v bare = rw (ne-eqb _ _ (bare .simplex), ne-eqb _ _ (bare .search), bare .gradient)
 
@@ -54,14 +54,14 @@ begins : (x : List Float) → rest (begunRecordOf x) ≡ differences asTold x
 unfolding begunRecordOf
 begins x = sym (follows asTold .begins (length x) (fromSliceOf x (length x))) ∙ ap (differences asTold) (ties .from-slice x (length x) ∙ first-whole x)
 
-begun-sized : (x : List Float) → length x ≤ 16 → Sized (begunRecordOf x .n) (begunRecordOf x .diff)
+pub begun-sized : (x : List Float) → length x ≤ 16 → Sized (begunRecordOf x .n) (begunRecordOf x .diff)
 unfolding begunRecordOf fromSliceOf
 begun-sized x h = follows asTold .begun-sized (length x) (fromSliceOf x (length x)) h (point-laws .width (at x) (length x) h)
 
 stepped-sized : (r : Record) (v : Float) → Other r → Sized (r .n) (r .diff) → (r .diff .at ≡ r .n → ⊥) → Sized (steppedOf r v .n) (steppedOf r v .diff)
 stepped-sized r v bare h d = subst (λ (q : Record). Sized (q .n) (q .diff)) (sym (steps r v bare)) (follows asTold .told-sized (r .n) (r .diff) v h (short r h d))
 
-begun-other : (x : List Float) → Other (begunRecordOf x)
+pub begun-other : (x : List Float) → Other (begunRecordOf x)
 unfolding begunRecordOf gradientJobOf
 begun-other x = record { simplex = λ e. not-one e; search = λ e. not-four e; gradient = refl }
   where

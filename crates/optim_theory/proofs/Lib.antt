@@ -16,6 +16,7 @@ pub mod Engine
 pub mod EngineRecords
 pub mod Mission
 pub mod NotVacuous
+pub mod Differences
 pub mod SearchRelated
 pub mod SearchAnswers
 pub mod SearchStarts

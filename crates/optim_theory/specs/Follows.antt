@@ -1,20 +1,23 @@
 -- The job `differences` puts the questions of its Algorithm and ends with its gradient, whatever is told. Statements only.
 use Prim.Native.Nat.{_+_, _≤_}
 use mathlib.Core.Path.{_≡_}
+use mathlib.Core.Bool.{true}
 use mathlib.Core.List.{List, [], _∷_}
 use lib.ListN.{length}
 use lib.Ieee.{Float}
-use Rattle.protocol.specs.Protocol.{Reply, ended, differenced}
+use Rattle.protocol.specs.Protocol.{Answer, Reply, ended, differenced}
+use Rattle.protocol.specs.Claim.{NotRefused}
 use Rattle.protocol.specs.Ask.{Ask, finish, query}
 use Rattle.objective.specs.Algorithm.{differences}
 use Rattle.objective.specs.Follows.{Sized, toDo}
 use Rattle.records.specs.declared.Record.{Record}
-use Rattle.records.specs.Record.{Other}
+use Rattle.records.specs.Record.{Other, validOf}
 use Rattle.stands.specs.Standing.{standingOf}
 use Rattle.optim.specs.Answer.{steppedOf, takenOf}
 use Rattle.starts.specs.Starts.{begunRecordOf}
 use Rattle.optim.specs.Start.{differencesOf}
-use Rattle.optim_theory.specs.Jobs.{shown}
+use Rattle.optim_theory.specs.Engine.{answerCode}
+use Rattle.optim_theory.specs.Jobs.{shown, runJob}
 
 -- "Bare differences never do" read a value that is not finite as +infinity
 abbrev pub asTold : Float → Float
@@ -46,3 +49,7 @@ pub record JobFollows : Type 0 where
   pub stepped-other : (r : Record) (v : Float) → Other r → Other (steppedOf r v)
   pub begun-sized : (x : List Float) → length x ≤ 16 → Sized (begunRecordOf x .n) (begunRecordOf x .diff)
   pub stepped-sized : (r : Record) (v : Float) → Other r → Sized (r .n) (r .diff) → (r .diff .at ≡ r .n → ⊥) → Sized (steppedOf r v .n) (steppedOf r v .diff)
+
+-- no record made by the start of differences and answers ever meets refusal 1
+abbrev pub DifferencesInRange : Type 0
+DifferencesInRange = (x : List Float) (l : List Answer) → NotRefused (differencesOf x .0) → validOf (runJob (differencesOf x) answerCode l .recordNow) ≡ true
