@@ -1,4 +1,5 @@
 pub mod Few
+pub mod Jobs
 pub mod Lends
 pub mod Scans
 pub mod Shows

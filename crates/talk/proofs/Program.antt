@@ -17,6 +17,7 @@ use Rattle.talk.specs.declared.State.{State}
 use Rattle.talk.specs.Talk.{stopped, begunOf, decidedOf}
 use Rattle.talk.specs.Program.{lastLine, linesFrom, printed, outputOf, scannedOf, byBytes, placeOf, firstPlace, afterLine, andThen, passedOf, turnedOf}
 use Rattle.talk.specs.Laws.{from, scannedThen, ProgramLaws}
+use Rattle.talk.proofs.Jobs.{jobs}
 
 fed-snoc : (r : Reader) (bs : List ℕ) (b : ℕ) → fedAll r (bs ++ (b ∷ [])) ≡ fedOf (fedAll r bs) b
 unfolding fedAll
@@ -147,4 +148,4 @@ unfolding firstPlace
 first-whole bs = whole bs
 
 pub program-laws : ProgramLaws
-program-laws = record { whole = first-whole; part-goes = part-goes; step-goes = step-goes; silent = silent }
+program-laws = record { whole = first-whole; part-goes = part-goes; step-goes = step-goes; silent = silent; jobs = jobs }

@@ -1,13 +1,17 @@
 -- What the program prints, part by part and step by step, is what 01 says of its lines. Statements only.
-use Prim.Native.Nat.{ℕ, _-_}
+use Prim.Native.Nat.{ℕ, _-_, _≤_}
 use mathlib.Core.Path.{_≡_}
+use mathlib.Core.Bool.{true}
 use mathlib.Core.List.{List, [], _++_}
 use lib.ListN.{drop}
+use Rattle.records.specs.Record.{simplexMark, lbfgsMark}
 use Rattle.text.specs.declared.Reader.{Reader}
+use Rattle.text.specs.Forms.{lineOf}
+use Rattle.text.specs.Lines.{firstLineOf}
 use Rattle.talk.specs.declared.Place.{Place}
 use Rattle.talk.specs.declared.Scan.{Scan}
 use Rattle.talk.specs.declared.State.{State}
-use Rattle.talk.specs.Talk.{stopped}
+use Rattle.talk.specs.Talk.{stopped, line1}
 use Rattle.talk.specs.Program.{outputOf, scannedOf, byBytes, firstPlace, andThen, passedOf, turnedOf}
 
 -- what is printed for bytes from a place on, to the end of the input
@@ -18,6 +22,10 @@ from p bs = byBytes (p .state) (p .reader) bs
 abbrev pub scannedThen : Place → ℕ → List ℕ → Scan → List ℕ × Place
 scannedThen p i bs q = let t = turnedOf p q in andThen (t .0) (passedOf (t .1) (drop (q .at - i) bs))
 
+-- the mark of simplex, bfgs or lbfgs
+abbrev pub Job : ℕ → Type 0
+Job job = (simplexMark ≤ job) × (job ≤ lbfgsMark)
+
 -- of every input, and of every part of it at every place
 pub record ProgramLaws : Type 0 where
   pub whole : (bs : List ℕ) → from firstPlace bs ≡ outputOf bs
@@ -27,3 +35,5 @@ pub record ProgramLaws : Type 0 where
   pub step-goes : (p : Place) (i : ℕ) (bs : List ℕ) → passedOf p bs ≡ scannedThen p i bs (scannedOf i bs (p .reader))
   -- "It stops after `bad`, a refused start": nothing more is printed
   pub silent : (s : State) (r : Reader) (bs : List ℕ) → s .due ≡ stopped → byBytes s r bs ≡ []
+  -- line 1 has one of three jobs: what is neither simplex nor bfgs is lbfgs
+  pub jobs : (bs : List ℕ) → firstLineOf (lineOf line1 bs) .ok ≡ true → Job (firstLineOf (lineOf line1 bs) .job)
