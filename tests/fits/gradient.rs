@@ -2,7 +2,7 @@
 // the Rust, told the same, puts the same questions and comes to the same outcome.
 
 use crate::fields::{G, V};
-use crate::models::Model;
+use crate::models::{self, Model};
 use crate::rust::{Call, Gradient};
 use crate::search::{self, dot, Search, Source};
 use crate::tellers::Teller;
@@ -54,14 +54,17 @@ pub const ROUNDS: &[&str] = &[
     "pair skipped: sy infinite or NaN",
     "pair skipped: sy above 0",
     "pair skipped, then another kept",
+    "pair skipped: sy just below its bound, then a search",
+    "pair kept: sy just above its bound, then a search",
+    "pair skipped: no move in a later round, then a search",
     "f_tol met",
     "f_tol met at an equal value",
-    "f_tol met, |f| above 1",
+    "f_tol met by |f| alone",
     "f_tol met, x_tol too",
     "f_tol met, grad_tol too",
     "x_tol met",
     "x_tol met at an equal value",
-    "x_tol met, |x| above 1",
+    "x_tol met by |x| alone",
     "x_tol met, grad_tol too",
     "GradientTolerance",
     "FunctionTolerance",
@@ -72,6 +75,7 @@ pub const ROUNDS: &[&str] = &[
     "end with no round",
     "end after ten rounds",
     "end with more fevals than max_fevals",
+    "MaxFevals with as many fevals as max_fevals",
     "end by the default max_iter",
     "end at an infinite coordinate",
     "by gradients: an end",
@@ -107,6 +111,9 @@ struct Shadow<'a> {
     g: Vec<f64>,
     model: Model,
     skipped: bool,
+    updates: u64,
+    // What the next search shows, if it goes along the model's direction and moves x.
+    pending: Vec<&'static str>,
 }
 
 impl Source for Shadow<'_> {
@@ -148,7 +155,7 @@ pub fn follow(start: &Gradient, teller: &mut Teller, most: usize) -> Followed {
     let (calls, marks, x) = (Vec::new(), Vec::new(), start.x0.clone());
     let so = Followed { calls, ending: None, x, f: 0.0, iterations: 0, fevals: 0, gevals: 0, marks };
     let model = if start.limited { Model::limited(start.memory as usize) } else { Model::dense(start.x0.len()) };
-    let mut shadow = Shadow { start, teller, most, so, g: Vec::new(), model, skipped: false };
+    let mut shadow = Shadow { start, teller, most, so, g: Vec::new(), model, skipped: false, updates: 0, pending: Vec::new() };
     shadow.so.ending = shadow.fit();
     shadow.note_ending();
     shadow.so
@@ -279,6 +286,8 @@ impl Shadow<'_> {
         let &Gradient { gradients, max_evals, c1, c2, step_max, .. } = self.start;
         let (x0, g, f0) = (self.so.x.clone(), self.g.clone(), self.so.f);
         let search = Search { gradients, in_a_fit: true, max_evals, c1, c2, step_max, initial_step, f0, x0, d, g };
+        let shows = !gave_way && search.x0.iter().zip(&search.d).any(|(x, d)| x + initial_step * d != *x);
+        std::mem::take(&mut self.pending).into_iter().for_each(|name| self.mark(shows, name));
         self.teller.begin(&search, self.so.iterations);
         let before = self.so.calls.len();
         let followed = search::follow(&search, self);
@@ -316,7 +325,7 @@ impl Shadow<'_> {
         if level {
             self.mark(true, "f_tol met");
             self.mark(fall == f_bound, "f_tol met at an equal value");
-            self.mark(f > 1.0, "f_tol met, |f| above 1");
+            self.mark(fall > self.start.f_tol, "f_tol met by |f| alone");
             self.mark(near, "f_tol met, x_tol too");
             self.mark(flat, "f_tol met, grad_tol too");
             return Some(FunctionTolerance);
@@ -324,7 +333,7 @@ impl Shadow<'_> {
         if near {
             self.mark(true, "x_tol met");
             self.mark(moved == x_bound && moved.is_finite(), "x_tol met at an equal value");
-            self.mark(x > 1.0, "x_tol met, |x| above 1");
+            self.mark(moved > self.start.x_tol && x.is_finite(), "x_tol met by |x| alone");
             self.mark(flat, "x_tol met, grad_tol too");
             return Some(StepTolerance);
         }
@@ -332,11 +341,22 @@ impl Shadow<'_> {
     }
 
     fn pair(&mut self, s: &[f64], y: &[f64]) {
-        let (sy, bound) = (dot(s, y), 1e-12 * largest(s) * largest(y));
+        let (sy, yy, bound, large) = (dot(s, y), dot(y, y), 1e-12 * largest(s) * largest(y), s.len() > 2);
         if sy > bound {
             let marks = self.model.update(s, y);
+            let dropped = marks.contains(&(true, "memory: a pair dropped"));
             self.mark_all(marks);
+            self.updates += 1;
             self.mark(self.skipped, "pair skipped, then another kept");
+            let [faint, one, five] = models::SHOWN[self.start.limited as usize];
+            let shown = [
+                (sy < 4.0 * bound, "pair kept: sy just above its bound, then a search"),
+                (yy == 0.0 && (1.0 / sy).is_finite(), faint),
+                (large, one),
+                (large && self.updates >= 5, five),
+                (large && dropped && self.start.memory > 1, "memory: one of several dropped, then a search, n above 2"),
+            ];
+            self.pending.extend(shown.iter().filter(|(met, _)| *met).map(|(_, name)| name));
             return;
         }
         self.skipped = true;
@@ -344,6 +364,11 @@ impl Shadow<'_> {
         self.mark(sy == bound && sy.is_finite(), "pair skipped: sy equal to its bound");
         self.mark(!sy.is_finite(), "pair skipped: sy infinite or NaN");
         self.mark(sy > 0.0 && sy.is_finite(), "pair skipped: sy above 0");
+        let shown = [
+            (sy > 0.25 * bound && sy.is_finite(), "pair skipped: sy just below its bound, then a search"),
+            (largest(s) == 0.0 && self.updates > 0, "pair skipped: no move in a later round, then a search"),
+        ];
+        self.pending.extend(shown.iter().filter(|(met, _)| *met).map(|(_, name)| name));
     }
 
     fn note_ending(&mut self) {
@@ -365,6 +390,8 @@ impl Shadow<'_> {
         self.mark(none && self.start.max_evals == 0, "an end before a search, max_evals 0");
         self.mark(none && !positive, "an end before a search, step_max refused");
         self.mark(self.start.max_fevals.is_some_and(|most| self.so.fevals > most), "end with more fevals than max_fevals");
+        let exact = name == "MaxFevals" && self.start.max_fevals == Some(self.so.fevals);
+        self.mark(exact, "MaxFevals with as many fevals as max_fevals");
         self.mark(name == "MaxIterations" && self.start.max_iter.is_none(), "end by the default max_iter");
         self.mark(self.so.x.iter().any(|v| v.is_infinite()), "end at an infinite coordinate");
         self.mark(true, if gradients { "by gradients: an end" } else { "by differences: an end" });

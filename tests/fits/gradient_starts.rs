@@ -147,9 +147,20 @@ fn scripted(random: &mut Random, mut start: Gradient, f0: f64, g0: Vec<f64>, fir
     start.x0 = g0.iter().map(|_| random.pick(&[0.0, 0.0, -0.0])).collect();
     let manner = random.pick(MANNERS);
     let round = if random.chance(80) { 1 } else { 2 + random.below(3) };
-    let aside = random.pick(&[0.0, 0.0, 1e20, -1e20, 1e160]);
+    let aside = random.pick(&[0.0, 0.0, 1e20, -1e20, 1e160, 5e11, 2e12, -1e12]);
     let most = most(random);
-    told(random, start, Kind::Scripted(Scripted { f0, g0, manner, round, first, aside }), most)
+    told(random, start, Kind::Scripted(Scripted { f0, g0, manner, round, first, aside, aside_from: 1 }), most)
+}
+
+// The first round leaves a slope so small that the second does not move x; what is told aside then moves it.
+fn standing_still(random: &mut Random, limited: bool) -> Drawn {
+    let mut start = usual(random, limited);
+    (start.gradients, start.grad_tol, start.x0) = (true, 0.0, vec![0.0; random.pick(&[2, 3])]);
+    let mut g0 = vec![0.0; start.x0.len()];
+    g0[0] = random.pick(&[4.0, -4.0, 8.0]);
+    let first = vec![(-5.0, random.pick(&[1e-30, -1e-30]))];
+    let (manner, aside) = (TAKEN, random.pick(&[1.0, -2.0]));
+    told(random, start, Kind::Scripted(Scripted { f0: 0.0, g0, manner, round: 1, first, aside, aside_from: 2 }), 60)
 }
 
 // Powers of two, so that a trial's point gives its step and a slope is told exactly.
@@ -228,17 +239,22 @@ fn faint(random: &mut Random, limited: bool) -> Drawn {
     let mut start = usual(random, limited);
     (start.gradients, start.grad_tol, start.x0) = (true, 0.0, vec![random.pick(&[0.0, 0.0, 1.0])]);
     let (least, half) = (-(2f64.powi(-537)), -(2f64.powi(-538)));
-    let list = match random.below(4) {
+    let list = match random.below(5) {
+        // So many doublings that 1/sy is finite, and of the dense matrix its square too; yy is 0.
+        4 => vec![vec![least; if limited { 60 } else { 570 }], vec![half, least, half, 0.0]].concat(),
         0 => vec![least, least, least, least, half, least],
         1 => vec![least, half, half, least],
         2 => vec![-1.0, 1e-150, random.pick(&[5e-151, 2e-150, 0.0])],
         _ => vec![-1.0, random.pick(&[1e-170, 1e-165]), 0.5],
     };
     (start.c1, start.c2) = random.pick(&[(0.1, 0.4), (TINY, 0.4)]);
+    if list.len() > 60 {
+        (start.max_evals, start.step_max) = (1000, 1.7e308);
+    }
     if list[0] == -1.0 {
         start.step_max = random.pick(&[1e-200, 1e-200, 1e10]);
     }
-    told(random, start, Kind::List(list), 60)
+    told(random, start, Kind::List(list), 1200)
 }
 
 // A direction that grows until it, or x, leaves the finite range. Of the dense matrix it grows to about 2^500, past which
@@ -333,6 +349,7 @@ pub fn draw(random: &mut Random, limited: bool) -> Drawn {
         7..=15 => by_script(random, limited),
         16..=17 => equal(random, limited),
         18..=19 => of_the_cubic(random, limited),
+        20 if random.chance(50) => standing_still(random, limited),
         20 => steep(random, limited),
         21 => faint(random, limited),
         22 => drifting(random, limited),

@@ -2,9 +2,18 @@
 
 use crate::search::dot;
 
+// What a search along the direction shows of the updates before it, dense and of limited memory.
+pub const SHOWN: [[&str; 3]; 2] = [
+    ["first update: yy 0, then a search", "update: n above 2, then a search", "update: five, n above 2, then a search"],
+    ["memory: yy 0, then a search", "memory: n above 2, then a search", "memory: five updates, n above 2, then a search"],
+];
+
 pub const DENSE: &[&str] = &[
     "first update: scaled",
     "first update: yy 0, not scaled",
+    SHOWN[0][0],
+    SHOWN[0][1],
+    SHOWN[0][2],
     "first update: yy infinite, scaled to 0",
     "update: a later one",
     "update: 1/sy infinite",
@@ -16,8 +25,12 @@ pub const LIMITED: &[&str] = &[
     "memory: a pair dropped, memory 1",
     "memory: a pair dropped, memory 2 to 15",
     "memory: a pair dropped, memory 16",
+    "memory: one of several dropped, then a search, n above 2",
     "memory: several pairs in a direction",
     "memory: yy 0, gamma as before",
+    SHOWN[1][0],
+    SHOWN[1][1],
+    SHOWN[1][2],
     "memory: yy infinite, gamma 0",
     "memory: 1/sy infinite",
 ];

@@ -59,6 +59,10 @@ const GRADIENT_STARTS: &[&str] = &[
     "no 4 2",
     "no 4 3",
     "no 5 1",
+    "no 5 1: c1 not above 0",
+    "no 5 1: c1 equal to c2",
+    "no 5 1: c2 1",
+    "no 5 1: NaN",
     "no 9",
     "no 12 1",
     "no 2 before 4 1",
@@ -240,6 +244,16 @@ fn note_refused(reached: &mut Reached, start: &Start) {
     let before: Vec<String> = faults[1..].iter().map(|next| format!("no {} before {next}", faults[0])).collect();
     let known = [SIMPLEX_STARTS, GRADIENT_STARTS, LBFGS_STARTS].into_iter().flatten();
     reached.extend(known.filter(|name| **name == alone || before.iter().any(|b| b == *name)));
+    if let Start::Gradient(g) = start {
+        let met = faults[0] == "5 1";
+        let marks = [
+            (met && g.c1 <= 0.0, "no 5 1: c1 not above 0"),
+            (met && g.c1 == g.c2, "no 5 1: c1 equal to c2"),
+            (met && g.c2 == 1.0, "no 5 1: c2 1"),
+            (met && (g.c1.is_nan() || g.c2.is_nan()), "no 5 1: NaN"),
+        ];
+        note(reached, &marks);
+    }
 }
 
 fn negative_zero(t: &f64) -> bool {

@@ -27,8 +27,9 @@ pub struct Scripted {
     // In which round the search's first trials are told `first`, values and slopes.
     pub round: u64,
     pub first: Vec<(f64, f64)>,
-    // The gradient's coordinates in which the search does not move.
+    // The gradient's coordinates in which the search does not move, from a round on; before it they are 0.
     pub aside: f64,
+    pub aside_from: u64,
 }
 
 pub struct Teller {
@@ -36,8 +37,8 @@ pub struct Teller {
     gradients: Gradients,
     random: Random,
     kind: Kind,
-    // Of the search in hand, with its direction.
-    script: Option<(Script, Vec<f64>)>,
+    // Of the search in hand, with its direction and its round.
+    script: Option<(Script, Vec<f64>, u64)>,
     values: u64,
     slopes: usize,
 }
@@ -56,7 +57,7 @@ impl Teller {
         if let Kind::Scripted(plan) = &self.kind {
             let first = if plan.round == round { plan.first.clone() } else { Vec::new() };
             let script = Script::new(search, plan.manner, Random::new(self.random.next()), first);
-            self.script = Some((script, search.d.clone()));
+            self.script = Some((script, search.d.clone(), round));
         }
     }
 
@@ -72,7 +73,7 @@ impl Teller {
 
     fn value(&mut self, x: &[f64]) -> f64 {
         match (&self.kind, &mut self.script) {
-            (Kind::Scripted(_), Some((script, _))) => script.value(x),
+            (Kind::Scripted(_), Some((script, ..))) => script.value(x),
             (Kind::Scripted(plan), None) => {
                 // Before the first search: the start, which is 0, or its differences.
                 let moved = x.iter().zip(&plan.g0).filter(|(v, _)| **v != 0.0);
@@ -86,9 +87,9 @@ impl Teller {
 
     fn gradient(&mut self, x: &[f64]) -> Vec<f64> {
         match (&self.kind, &self.script) {
-            (Kind::Scripted(plan), Some((script, d))) => {
-                let told = script.gradient();
-                told.iter().zip(d).map(|(g, d)| if *d == 0.0 { plan.aside } else { *g }).collect()
+            (Kind::Scripted(plan), Some((script, d, round))) => {
+                let aside = if *round < plan.aside_from { 0.0 } else { plan.aside };
+                script.gradient().iter().zip(d).map(|(g, d)| if *d == 0.0 { aside } else { *g }).collect()
             }
             (Kind::Scripted(plan), None) => plan.g0.clone(),
             (Kind::List(list), _) => {

@@ -17,6 +17,8 @@ pub const WAYS: &[&str] = &[
     "midpoint: at 5% from the smaller end",
     "midpoint: at 5% from the larger end",
     "cubic: discriminant 0",
+    "cubic: within 6% of the smaller end",
+    "cubic: within 6% of the larger end",
     "cubic: lo below hi",
     "cubic: lo above hi",
 ];
@@ -64,7 +66,20 @@ fn interpolated(lo: &Trial, hi: &Trial) -> Result<(f64, &'static str), &'static 
     if discriminant == 0.0 {
         return Ok((step, "cubic: discriminant 0"));
     }
+    if let Some(way) = near_an_end(step, lo.step, hi.step) {
+        return Ok((step, way));
+    }
     Ok((step, if width > 0.0 { "cubic: lo below hi" } else { "cubic: lo above hi" }))
+}
+
+// A step that is taken, and that a wider margin would leave.
+fn near_an_end(step: f64, a: f64, b: f64) -> Option<&'static str> {
+    let (smaller, larger) = if a < b { (a, b) } else { (b, a) };
+    let margin = 0.06 * (larger - smaller);
+    if step < smaller + margin {
+        return Some("cubic: within 6% of the smaller end");
+    }
+    (step > larger - margin).then_some("cubic: within 6% of the larger end")
 }
 
 fn within(step: f64, a: f64, b: f64) -> Result<f64, &'static str> {

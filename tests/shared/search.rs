@@ -43,6 +43,7 @@ pub const ZOOM: &[&str] = &[
     "zoom: ends by width before a trial",
     "zoom: ends by a width equal to its bound",
     "zoom: ends by width, both ends above 1",
+    "zoom: ends by a width above 1e-14",
     "zoom: ends by curvature",
     "zoom: Armijo fails",
     "zoom: not below lo",
@@ -350,6 +351,7 @@ impl Shadow<'_> {
         self.mark(met, "zoom: ends by width");
         self.mark(width == 1e-14 * largest && width.is_finite(), "zoom: ends by a width equal to its bound");
         self.mark(met && lo.step > 1.0 && hi.step > 1.0, "zoom: ends by width, both ends above 1");
+        self.mark(met && width > 1e-14 && width.is_finite(), "zoom: ends by a width above 1e-14");
         self.mark(met && hi.step.is_infinite(), "zoom: ends by width, hi infinite");
         met
     }
