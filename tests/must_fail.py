@@ -3,7 +3,7 @@
 
 Run it at the repository's root after either. It fails (exit status 1) where an edit has no log, where a log is of no edit,
 where an edit was not refused by the prover, or where it was refused for its shape alone: its first error then says that a
-module "has no `Need-..` that can be named from here", so that the proof file only no longer fits the code, and nothing is
+module "has no `Need-..` that can be named from here", or that a record of the function's places has no such field, so that the proof file only no longer fits the code, and nothing is
 shown of the contract. With --table it prints the edits as a table, which docs/MUST-FAIL.md holds; without, it also fails
 where that table is not the one in docs/MUST-FAIL.md.
 """
@@ -13,7 +13,7 @@ import sys
 
 TARGET = pathlib.Path("target/must-fail")
 TABLE = pathlib.Path("docs/MUST-FAIL.md")
-SHAPE = re.compile(r"has no `Need-[^`]*` that can be named from here")
+SHAPE = re.compile(r"has no `Need-[^`]*` that can be named from here|^`[^`]+`: record `[^`]+\.Lts\.[^`]+`( has no field|$)")
 
 
 def edits():
