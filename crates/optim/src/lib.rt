@@ -1,7 +1,9 @@
 // The engine: one start for each job, and one call for each answer. The record goes in by value and
 // comes back beside the reply.
 use protocol::Allowances;
+use neldermead::Simplex;
 use protocol::GradientOptions;
+use protocol::Kind;
 use protocol::SimplexOptions;
 use protocol::WolfeOptions;
 pub use records::Answered;
@@ -9,9 +11,14 @@ use records::Counts;
 pub use records::Record;
 pub use records::blank;
 pub use records::valid;
+use quasinewton::Descent;
+use stands::Spoken;
 ghost use mathlib.Core.Path.{_≡_};
-ghost use Rattle.records.specs.Record.{outcomeOf, Ranges, Open, Modelled};
-ghost use Rattle.optim.specs.Answer.{repeatsOf, steppedOf, gradedOf, takenOf, takenGradientOf, suitsOf, heardOf, answerOf};
+ghost use Prim.Native.Nat.{_≤_, _<_};
+ghost use lib.ListN.{length};
+ghost use Rattle.records.specs.Record.{simplexMark, outcomeOf, blankOf, Ranges};
+ghost use Rattle.stands.specs.Standing.{replyWith, refusedOf};
+ghost use Rattle.optim.specs.Answer.{repeatsOf, suitsOf, meetsOf, acceptsOf, Worded, countedOf, simplexToldOf, searchToldOf, descentToldOf, Speaks, repliedOf, answerOf};
 ghost use Rattle.optim.specs.Start.{differencesOf, simplexOf, searchOf, gradientOf, bfgsOf, lbfgsOf};
 
 const SIMPLEX: u64 = 1;
@@ -26,111 +33,6 @@ fn repeats(accepted: u64, number: u64) -> bool
         return false;
     }
     number == accepted
-}
-
-// The record after the value v that was asked for. In a fit the value is read, and in a search that of a
-// trial; differences take it as it is.
-fn stepped(r: Record, v: f64) -> Record
-    requires { ⌜ Ranges r ⌝ }
-    requires { ⌜ Open r ⌝ }
-    ensures { λ q. ⌜ q ≡ steppedOf r v ⌝ }
-{
-    let counts = r.counts;
-    let old = r.diff;
-    let s = r.simplex;
-    let fevals = counts.fevals + 1;
-    let gevals = counts.gevals;
-    let more = Counts { fevals, gevals };
-    let mut q = r;
-    q.accepted = r.accepted + 1;
-    q.counts = more;
-    if r.job == SIMPLEX {
-        let fit = stands::fixed(r);
-        let f = objective::read(v);
-        let next = neldermead::told(fit, s, f, fevals);
-        q.simplex = next;
-        return q;
-    }
-    if r.job == SEARCH {
-        let mut d = r.descent;
-        let fixed = stands::search_fixed(r);
-        let f = objective::read(v);
-        let line = d.line;
-        let search = d.search;
-        d.search = linesearch::told(fixed, line, search, f, v);
-        q.descent = d;
-        return q;
-    }
-    if records::gradient_job(r.job) {
-        let d = r.descent;
-        let m = r.model;
-        let fixed = stands::gradient_fixed(r);
-        let f = objective::read(v);
-        let told = quasinewton::told(fixed, d, f);
-        let moved = quasinewton::settled(fixed, told, m, fevals);
-        let descent = moved.descent;
-        let model = moved.model;
-        q.descent = descent;
-        q.model = model;
-        return q;
-    }
-    let next = objective::told(old, v);
-    q.diff = next;
-    q
-}
-
-// The record after the gradient g that was asked for, by a search or by a gradient fit.
-fn graded(r: Record, g: [f64; 16]) -> Record
-    requires { ⌜ Ranges r ⌝ }
-    requires { ⌜ Modelled r ⌝ }
-    ensures { λ q. ⌜ q ≡ gradedOf r g ⌝ }
-{
-    let counts = r.counts;
-    let fevals = counts.fevals;
-    let gevals = counts.gevals + 1;
-    let more = Counts { fevals, gevals };
-    let mut q = r;
-    q.accepted = r.accepted + 1;
-    q.counts = more;
-    if r.job == SEARCH {
-        let mut d = r.descent;
-        let fixed = stands::search_fixed(r);
-        let line = d.line;
-        let search = d.search;
-        d.search = linesearch::told_gradient(fixed, line, search, g);
-        q.descent = d;
-        return q;
-    }
-    let d = r.descent;
-    let m = r.model;
-    let fixed = stands::gradient_fixed(r);
-    let told = quasinewton::told_gradient(fixed, d, g);
-    let moved = quasinewton::settled(fixed, told, m, fevals);
-    let descent = moved.descent;
-    let model = moved.model;
-    q.descent = descent;
-    q.model = model;
-    q
-}
-
-// The reply to the value v that was asked for.
-fn taken(r: Record, v: f64) -> Answered
-    requires { ⌜ Ranges r ⌝ }
-    requires { ⌜ Open r ⌝ }
-    ensures { λ a. ⌜ outcomeOf a ≡ takenOf r v ⌝ }
-{
-    let q = stepped(r, v);
-    stands::standing(q)
-}
-
-// The reply to the gradient g that was asked for.
-fn taken_gradient(r: Record, g: [f64; 16]) -> Answered
-    requires { ⌜ Ranges r ⌝ }
-    requires { ⌜ Modelled r ⌝ }
-    ensures { λ a. ⌜ outcomeOf a ≡ takenGradientOf r g ⌝ }
-{
-    let q = graded(r, g);
-    stands::standing(q)
 }
 
 // Whether an answer's kind and count of words are those of the open question.
@@ -149,46 +51,171 @@ fn suits(r: Record, kind: u8, count: usize) -> bool
     count == 1
 }
 
-// The reply to an answer, over a record in range.
-fn heard(r: Record, number: u64, kind: u8, words: &[f64]) -> Answered
-    requires { ⌜ Ranges r ⌝ }
-    ensures { λ a. ⌜ outcomeOf a ≡ heardOf r number kind (now (words .entry)) ⌝ }
+// The number of the refusal that an answer meets, 0 for none: 1, then the repeat rule, then 15 to 17.
+fn meets(r: Record, number: u64, kind: u8, count: usize) -> u64
+    ensures { λ m. ⌜ m ≡ meetsOf r number kind count ⌝ }
 {
-    let due = r.accepted + 1;
-    let repeated = repeats(r.accepted, number);
-    let ended = stands::over(r);
-    let suited = suits(r, kind, words.len());
-    let slopes = stands::gradient_due(r);
-    if repeated {
-        return stands::standing(r);
+    if !records::valid(r) {
+        return 1;
     }
-    if ended {
-        return stands::refused(r, 15, 0);
+    if repeats(r.accepted, number) {
+        return 0;
     }
-    if number != due {
-        return stands::refused(r, 16, 0);
+    if stands::over(r) {
+        return 15;
     }
-    if !suited {
-        return stands::refused(r, 17, 0);
+    if number != r.accepted + 1 {
+        return 16;
     }
-    if slopes {
-        let g = vector::from_slice(words, r.n);
-        return taken_gradient(r, g);
+    if !suits(r, kind, count) {
+        return 17;
     }
-    let v = words[0];
-    taken(r, v)
+    0
 }
 
-// An answer to the open question: its number, its kind's letter, and its words. A record out of range
-// is refused first, then comes the repeat rule, then 15 to 17. A refused or repeated answer returns the
-// very record that was passed.
+// Whether an answer that meets the refusal `why` is accepted: it meets none, and is no repeat.
+fn accepts(r: Record, number: u64, why: u64) -> bool
+    ensures { λ b. ⌜ b ≡ acceptsOf r number why ⌝ }
+{
+    if why != 0 {
+        return false;
+    }
+    !repeats(r.accepted, number)
+}
+
+// The counts with one answer more.
+fn counted(r: Record) -> Counts
+    requires { ⌜ Ranges r ⌝ }
+    ensures { λ c. ⌜ c ≡ countedOf r ⌝ }
+{
+    let counts = r.counts;
+    let fevals = counts.fevals;
+    let gevals = counts.gevals;
+    if stands::gradient_due(r) {
+        return Counts {
+            fevals,
+            gevals: gevals + 1,
+        };
+    }
+    Counts {
+        fevals: fevals + 1,
+        gevals,
+    }
+}
+
+// The simplex after an answer: its value is read.
+fn simplex_told(r: Record, words: &[f64]) -> Simplex
+    requires { ⌜ Ranges r ⌝ }
+    requires { ⌜ r .job ≡ simplexMark ⌝ }
+    requires { ⌜ 0 < length (now words) ⌝ }
+    ensures { λ s. ⌜ s ≡ simplexToldOf r (now (words .entry)) ⌝ }
+{
+    let s = r.simplex;
+    let counts = r.counts;
+    let fixed = stands::fixed(r);
+    let f = objective::read(words[0]);
+    neldermead::told(fixed, s, f, counts.fevals + 1)
+}
+
+// The descent of the job search after an answer: the value of a trial is read, one for differences is not.
+fn search_told(r: Record, words: &[f64]) -> Descent
+    requires { ⌜ r .n ≤ 16 ⌝ }
+    requires { ⌜ Worded r (now words) ⌝ }
+    ensures { λ d. ⌜ d ≡ searchToldOf r (now (words .entry)) ⌝ }
+{
+    let mut d = r.descent;
+    let line = d.line;
+    let search = d.search;
+    let fixed = stands::search_fixed(r);
+    if stands::gradient_due(r) {
+        let g = vector::from_slice(words, r.n);
+        let next = linesearch::told_gradient(fixed, line, search, g);
+        d.search = next;
+        return d;
+    }
+    let v = words[0];
+    let next = linesearch::told(fixed, line, search, objective::read(v), v);
+    d.search = next;
+    d
+}
+
+// The descent of a gradient fit after an answer: its value is read.
+fn descent_told(r: Record, words: &[f64]) -> Descent
+    requires { ⌜ r .n ≤ 16 ⌝ }
+    requires { ⌜ Worded r (now words) ⌝ }
+    ensures { λ d. ⌜ d ≡ descentToldOf r (now (words .entry)) ⌝ }
+{
+    let d = r.descent;
+    let fixed = stands::gradient_fixed(r);
+    if stands::gradient_due(r) {
+        let g = vector::from_slice(words, r.n);
+        return quasinewton::told_gradient(fixed, d, g);
+    }
+    let f = objective::read(words[0]);
+    quasinewton::told(fixed, d, f)
+}
+
+// What is said of a record, after an answer that met the refusal `why`.
+fn replied(r: Record, why: u64) -> Spoken
+    requires { ⌜ Speaks r why ⌝ }
+    ensures { λ s. ⌜ replyWith s r ≡ repliedOf r why ⌝ }
+{
+    if why != 0 {
+        return stands::refused(why, 0);
+    }
+    stands::standing(r)
+}
+
+// What is said, beside its record.
+fn answered(s: Spoken, r: Record) -> Answered
+    ensures { λ a. ⌜ outcomeOf a ≡ replyWith s r ⌝ }
+{
+    let said = s.said;
+    let x = s.x;
+    let g = s.g;
+    Answered {
+        said,
+        x,
+        g,
+        next: r,
+    }
+}
+
+// A start that is refused.
+fn refused(number: u64, detail: u64) -> Answered
+    ensures { λ a. ⌜ outcomeOf a ≡ refusedOf blankOf number detail ⌝ }
+{
+    let none = records::blank();
+    let s = stands::refused(number, detail);
+    answered(s, none)
+}
+
+// An answer to the open question: its number, its kind's letter, and its words. A refused or repeated
+// answer returns the very record that was passed. One record is kept and parts of it are replaced, so that
+// it is copied no more than its passing asks for.
 pub fn answer(r: Record, number: u64, kind: u8, words: &[f64]) -> Answered
     ensures { λ a. ⌜ outcomeOf a ≡ answerOf r number kind (now (words .entry)) ⌝ }
 {
-    if records::valid(r) {
-        return heard(r, number, kind, words);
+    let mut q = r;
+    let why = meets(q, number, kind, words.len());
+    if accepts(q, number, why) {
+        let counts = counted(q);
+        if q.job == SIMPLEX {
+            let next = simplex_told(q, words);
+            q.simplex = next;
+        } else if q.job == SEARCH {
+            let next = search_told(q, words);
+            q.descent = next;
+        } else {
+            let old = q.diff;
+            let next = objective::told(old, words[0]);
+            q.diff = next;
+        }
+        q.accepted = q.accepted + 1;
+        q.counts = counts;
     }
-    stands::refused(r, 1, 0)
+    let s = replied(q, why);
+    answered(s, q)
 }
 
 // Starts central differences at x. A list of more than sixteen is refused with 2; of none it ends at
@@ -197,11 +224,11 @@ pub fn differences(x: &[f64]) -> Answered
     ensures { λ a. ⌜ outcomeOf a ≡ differencesOf (now (x .entry)) ⌝ }
 {
     if 16 < x.len() {
-        let none = records::blank();
-        return stands::refused(none, 2, 0);
+        return refused(2, 0);
     }
     let r = starts::begun_record(x);
-    stands::standing(r)
+    let s = stands::standing_differences(r);
+    answered(s, r)
 }
 
 // Starts a simplex fit at x. It is refused with 2, 4, 8, 9 or 12, looked for in that order.
@@ -211,16 +238,15 @@ pub fn simplex(x: &[f64], o: SimplexOptions, a: Allowances) -> Answered
     let n = x.len();
     let why = starts::simplex_refusal(n, o, a);
     if why.number != 0 {
-        let none = records::blank();
-        return stands::refused(none, why.number, why.detail);
+        return refused(why.number, why.detail);
     }
     let point = vector::from_slice(x, n);
     if !vector::all_finite(point, n) {
-        let none = records::blank();
-        return stands::refused(none, 12, 1);
+        return refused(12, 1);
     }
     let r = starts::simplex_record(point, n, o, a);
-    stands::standing(r)
+    let s = stands::asks(r, Kind::Value, point);
+    answered(s, r)
 }
 
 // Starts a search from x along d, where the value is f0 and the gradient g, with the first step `step`. It
@@ -239,8 +265,7 @@ pub fn search(
     let n = x.len();
     let why = starts::search_refusal(n, d.len(), g.len(), o);
     if why.number != 0 {
-        let none = records::blank();
-        return stands::refused(none, why.number, why.detail);
+        return refused(why.number, why.detail);
     }
     let from = vector::from_slice(x, n);
     let along = vector::from_slice(d, n);
@@ -248,11 +273,11 @@ pub fn search(
     let line = linesearch::line_from(from, along, f0, slopes, n);
     let lent = linesearch::line_refusal(n, line, step);
     if lent.number != 0 {
-        let none = records::blank();
-        return stands::refused(none, lent.number, lent.detail);
+        return refused(lent.number, lent.detail);
     }
     let r = starts::search_record(line, n, step, o, gradients);
-    stands::standing(r)
+    let s = stands::standing_search(r);
+    answered(s, r)
 }
 
 // Starts a gradient fit at x, lbfgs where `limited`.
@@ -262,16 +287,15 @@ fn gradient(x: &[f64], o: GradientOptions, a: Allowances, limited: bool) -> Answ
     let n = x.len();
     let why = starts::gradient_refusal(n, o, a, limited);
     if why.number != 0 {
-        let none = records::blank();
-        return stands::refused(none, why.number, why.detail);
+        return refused(why.number, why.detail);
     }
     let point = vector::from_slice(x, n);
     if !vector::all_finite(point, n) {
-        let none = records::blank();
-        return stands::refused(none, 12, 1);
+        return refused(12, 1);
     }
     let r = starts::gradient_record(point, n, o, a, limited);
-    stands::standing(r)
+    let s = stands::asks(r, Kind::Value, point);
+    answered(s, r)
 }
 
 // Starts a fit by bfgs at x; its memory is passed over. It is refused with 2, 4, 5, 9 or 12, looked for in

@@ -5,13 +5,12 @@ use protocol::Kind;
 use protocol::Said;
 use protocol::Summary;
 use protocol::Termination;
-use records::Answered;
 use records::Record;
 ghost use mathlib.Core.Path.{_≡_};
 ghost use Prim.Native.Nat.{_≤_};
 ghost use Rattle.protocol.specs.Protocol.{ended, searched};
-ghost use Rattle.records.specs.Record.{outcomeOf, fixedOf, searchFixedOf, gradientFixedOf, Stands};
-ghost use Rattle.stands.specs.Standing.{refusedOf, overOf, gradientDueOf, terminationOf, asksOf, endsOf, searchResultOf, descentTerminationOf, descentConvergedOf, descentEndsOf, standingDescentOf, standingSimplexOf, standingSearchOf, standingDifferencesOf, standingOf};
+ghost use Rattle.records.specs.Record.{fixedOf, searchFixedOf, gradientFixedOf, Stands};
+ghost use Rattle.stands.specs.Standing.{refusalOf, replyWith, overOf, gradientDueOf, terminationOf, asksOf, endsOf, searchResultOf, descentTerminationOf, descentConvergedOf, descentEndsOf, standingDescentOf, standingSimplexOf, standingSearchOf, standingDifferencesOf, standingOf};
 
 const SIMPLEX: u64 = 1;
 
@@ -49,18 +48,23 @@ const BY_SEARCH: u64 = 10;
 
 const BY_REFUSAL: u64 = 12;
 
-// A refusal: the record comes back as it was.
-pub fn refused(r: Record, number: u64, detail: u64) -> Answered
-    ensures { λ a. ⌜ outcomeOf a ≡ refusedOf r number detail ⌝ }
+// A reply, with the point and the gradient that it speaks of.
+pub struct Spoken {
+    pub said: Said,
+    pub x: [f64; 16],
+    pub g: [f64; 16],
+}
+
+// A refusal.
+pub fn refused(number: u64, detail: u64) -> Spoken
+    ensures { λ s. ⌜ s ≡ refusalOf number detail ⌝ }
 {
-    let next = r;
     let x = [0.0; 16];
     let g = [0.0; 16];
-    Answered {
+    Spoken {
         said: Said::Refused(number, detail),
         x,
         g,
-        next,
     }
 }
 
@@ -157,22 +161,21 @@ fn termination(phase: u64) -> Termination
 }
 
 // The question of a kind at x.
-fn asks(r: Record, kind: Kind, x: [f64; 16]) -> Answered
+pub fn asks(r: Record, kind: Kind, x: [f64; 16]) -> Spoken
     requires { ⌜ Stands r ⌝ }
-    ensures { λ a. ⌜ outcomeOf a ≡ asksOf r kind x ⌝ }
+    ensures { λ s. ⌜ replyWith s r ≡ asksOf r kind x ⌝ }
 {
     let g = [0.0; 16];
-    Answered {
+    Spoken {
         said: Said::Ask(r.accepted + 1, kind),
         x,
         g,
-        next: r,
     }
 }
 
 // The result of a simplex fit.
-fn ends(r: Record) -> Answered
-    ensures { λ a. ⌜ outcomeOf a ≡ endsOf r ⌝ }
+fn ends(r: Record) -> Spoken
+    ensures { λ s. ⌜ replyWith s r ≡ endsOf r ⌝ }
 {
     let s = r.simplex;
     let counts = r.counts;
@@ -188,18 +191,17 @@ fn ends(r: Record) -> Answered
         gevals: counts.gevals,
         f: best.f,
     };
-    Answered {
+    Spoken {
         said: Said::Fitted(summary),
         x,
         g,
-        next: r,
     }
 }
 
 // What stands in a simplex fit.
-fn standing_simplex(r: Record) -> Answered
+fn standing_simplex(r: Record) -> Spoken
     requires { ⌜ Stands r ⌝ }
-    ensures { λ a. ⌜ outcomeOf a ≡ standingSimplexOf r ⌝ }
+    ensures { λ s. ⌜ replyWith s r ≡ standingSimplexOf r ⌝ }
 {
     let s = r.simplex;
     let x = s.x;
@@ -207,14 +209,14 @@ fn standing_simplex(r: Record) -> Answered
         return asks(r, Kind::Value, x);
     }
     if s.phase == NOT_FINITE {
-        return refused(r, 20, 0);
+        return refused(20, 0);
     }
     ends(r)
 }
 
 // The outcome of a search.
-fn found(r: Record) -> Answered
-    ensures { λ a. ⌜ outcomeOf a ≡ (ended (searched (searchResultOf r)), r) ⌝ }
+fn found(r: Record) -> Spoken
+    ensures { λ s. ⌜ replyWith s r ≡ (ended (searched (searchResultOf r)), r) ⌝ }
 {
     let d = r.descent;
     let s = d.search;
@@ -228,18 +230,17 @@ fn found(r: Record) -> Answered
         f: trial.value,
         trials: s.trials,
     };
-    Answered {
+    Spoken {
         said: Said::Searched(outcome),
         x,
         g,
-        next: r,
     }
 }
 
 // What stands in a search.
-fn standing_search(r: Record) -> Answered
+pub fn standing_search(r: Record) -> Spoken
     requires { ⌜ Stands r ⌝ }
-    ensures { λ a. ⌜ outcomeOf a ≡ standingSearchOf r ⌝ }
+    ensures { λ s. ⌜ replyWith s r ≡ standingSearchOf r ⌝ }
 {
     let d = r.descent;
     let s = d.search;
@@ -290,8 +291,8 @@ fn descent_converged(phase: u64) -> bool
 }
 
 // The result of a gradient fit.
-fn descent_ends(r: Record) -> Answered
-    ensures { λ a. ⌜ outcomeOf a ≡ descentEndsOf r ⌝ }
+fn descent_ends(r: Record) -> Spoken
+    ensures { λ s. ⌜ replyWith s r ≡ descentEndsOf r ⌝ }
 {
     let d = r.descent;
     let counts = r.counts;
@@ -308,18 +309,17 @@ fn descent_ends(r: Record) -> Answered
         gevals: counts.gevals,
         f: line.f,
     };
-    Answered {
+    Spoken {
         said: Said::Fitted(summary),
         x,
         g,
-        next: r,
     }
 }
 
 // What stands in a gradient fit.
-fn standing_descent(r: Record) -> Answered
+fn standing_descent(r: Record) -> Spoken
     requires { ⌜ Stands r ⌝ }
-    ensures { λ a. ⌜ outcomeOf a ≡ standingDescentOf r ⌝ }
+    ensures { λ s. ⌜ replyWith s r ≡ standingDescentOf r ⌝ }
 {
     let d = r.descent;
     let fixed = gradient_fixed(r);
@@ -333,26 +333,25 @@ fn standing_descent(r: Record) -> Answered
         return asks(r, Kind::Value, x);
     }
     if d.phase == BY_REFUSAL {
-        return refused(r, d.number, d.detail);
+        return refused(d.number, d.detail);
     }
     descent_ends(r)
 }
 
 // What stands in differences.
-fn standing_differences(r: Record) -> Answered
+pub fn standing_differences(r: Record) -> Spoken
     requires { ⌜ Stands r ⌝ }
     requires { ⌜ r .diff .at ≤ r .n ⌝ }
-    ensures { λ a. ⌜ outcomeOf a ≡ standingDifferencesOf r ⌝ }
+    ensures { λ s. ⌜ replyWith s r ≡ standingDifferencesOf r ⌝ }
 {
     let diff = r.diff;
     if diff.at == r.n {
         let x = diff.x;
         let g = diff.g;
-        return Answered {
+        return Spoken {
             said: Said::Differenced,
             x,
             g,
-            next: r,
         };
     }
     let x = objective::probe(diff);
@@ -360,9 +359,9 @@ fn standing_differences(r: Record) -> Answered
 }
 
 // The question or the outcome that stands.
-pub fn standing(r: Record) -> Answered
+pub fn standing(r: Record) -> Spoken
     requires { ⌜ Stands r ⌝ }
-    ensures { λ a. ⌜ outcomeOf a ≡ standingOf r ⌝ }
+    ensures { λ s. ⌜ replyWith s r ≡ standingOf r ⌝ }
 {
     if r.job == SIMPLEX {
         return standing_simplex(r);

@@ -1,13 +1,13 @@
 -- `stands::asks` meets its contract: each return follows the calls and tests that led to it. Assumes nothing.
 use borrow.Author.Needs.{needs}
 use mathlib.Core.Path.{refl}
-use Rattle.records.specs.Record.{outcomeOf}
 use Rattle.protocol.specs.Protocol.{replyOf}
+use Rattle.stands.specs.Standing.{replyWith}
 use Rattle.stands.proofs.asks.Statement.{statement}
 use Rattle.stands.proofs.asks.Tie as tie
 
 pub asks-spec : {M : Type 1} → statement M
-unfolding outcomeOf replyOf
+unfolding replyWith replyOf
 asks-spec =
     tie.close
     (tie.spec

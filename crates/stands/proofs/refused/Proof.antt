@@ -1,12 +1,11 @@
 -- `stands::refused` meets its contract: each return follows the calls and tests that led to it. Assumes nothing.
 use mathlib.Core.Path.{refl}
-use Rattle.records.specs.Record.{outcomeOf}
-use Rattle.protocol.specs.Protocol.{replyOf}
+use lib.Ieee.{ofBits}
 use Rattle.stands.proofs.refused.Statement.{statement}
 use Rattle.stands.proofs.refused.Tie as tie
 
 pub refused-spec : {M : Type 1} → statement M
-unfolding outcomeOf replyOf
+unfolding ofBits
 refused-spec =
     tie.close
     (tie.spec
