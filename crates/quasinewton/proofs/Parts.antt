@@ -47,12 +47,12 @@ module _ (fixed : Fixed) (fevals : ℕ) where
     abbrev t : Evaluation
     t = q .search .best
 
-    abbrev stored : Bool
-    stored = storesOf (pairStepOf q (fixed .n)) (pairChangeOf q (fixed .n)) (fixed .n)
+    abbrev stores : Bool
+    stores = storesOf (pairStepOf q (fixed .n)) (pairChangeOf q (fixed .n)) (fixed .n)
 
     -- the model, by whether the gradient is finite
     abbrev after : Bool → Model
-    after finite = cond (cond (not finite) false stored) (updatedOf fixed q m) m
+    after finite = cond (cond (not finite) false stores) (updatedOf fixed q m) m
 
     succeeded-parts : succeededOf fixed q m t fevals ≡ moved (through (testedOf fixed q t) (after (allFiniteOf (t .g) (fixed .n)))) (after (allFiniteOf (t .g) (fixed .n)))
     unfolding succeededOf testedOf storedOf updatedOf steppedOf
@@ -94,7 +94,7 @@ module _ (fixed : Fixed) (fevals : ℕ) where
       arrived met missed = cond met (testedOf fixed now (q .search .best)) (cond missed (missedOf now (q .search .best)) now)
 
       kept : Bool → Model
-      kept met = cond (cond (not met) false (cond (not finite) false (stored now m))) (updatedOf fixed now m) m
+      kept met = cond (cond (not met) false (cond (not finite) false (stores now m))) (updatedOf fixed now m) m
 
       go : (met missed : Bool)
           → cond met (succeededOf fixed now m (q .search .best) fevals) (cond missed (moved (missedOf now (q .search .best)) m) (moved now m))

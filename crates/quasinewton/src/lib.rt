@@ -71,15 +71,14 @@ pub fn stores(fixed: Fixed, q: Descent) -> bool
     requires { ⌜ fixed .n ≤ 16 ⌝ }
     ensures { λ r. ⌜ r ≡ storesPairOf fixed q ⌝ }
 {
-    let s = q.search;
-    let t = s.best;
-    let g = t.g;
     if q.phase != SEARCHING {
         return false;
     }
-    if s.phase != FOUND {
+    if q.search.phase != FOUND {
         return false;
     }
+    let t = q.search.best;
+    let g = t.g;
     if !vector::all_finite(g, fixed.n) {
         return false;
     }
