@@ -22,9 +22,8 @@ use Rattle.hessian.specs.declared.Model.{Model}
 use Rattle.hessian.specs.Step.{limitedUpdateOf, denseUpdateOf, updateOf}
 use Rattle.quasinewton.specs.declared.Descent.{Descent}
 use Rattle.quasinewton.specs.declared.Fixed.{Fixed}
-use Rattle.quasinewton.specs.declared.Moved.{Moved}
 use Rattle.quasinewton.specs.Step as step
-use Rattle.quasinewton.specs.Step.{probeOf, asksOf, storesOf, smallDecreaseOf, smallStepOf, storedOf, succeededOf, settledOf, toldOf, toldGradientOf}
+use Rattle.quasinewton.specs.Step.{probeOf, asksOf, storesOf, smallDecreaseOf, smallStepOf, Moved, storedOf, succeededOf, settledOf, toldOf, toldGradientOf}
 use Rattle.vector.specs.Points.{differenceOf, allFiniteOf}
 use Rattle.quasinewton_theory.specs.Follows.{toDo, wantsGradient, kindOf, heardOf, settled, AllowsFevals, Allows, Shaped}
 use Rattle.quasinewton_theory.proofs.Follows.{gradient-follows}

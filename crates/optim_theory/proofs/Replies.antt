@@ -14,9 +14,8 @@ use Rattle.protocol.specs.Protocol.{Question, Outcome, Reply, ask, ended, refus
 use Rattle.objective.specs.Step.{toldOf}
 use Rattle.neldermead.specs.Step.{notFinite, toldOf as simplexTold}
 use Rattle.quasinewton.specs.declared.Fixed as quasinewtonFixed
-use Rattle.quasinewton.specs.declared.Moved.{Moved}
 use Rattle.quasinewton.specs.Step as quasinewton
-use Rattle.quasinewton.specs.Step.{byRefusal}
+use Rattle.quasinewton.specs.Step.{byRefusal, Moved}
 use Rattle.records.specs.declared.Record.{Record}
 use Rattle.linesearch.specs.Step as linesearch
 use Rattle.linesearch.specs.Step.{asksGradient, asksDifference}

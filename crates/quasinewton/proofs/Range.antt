@@ -1,26 +1,20 @@
--- The model after a step has at most sixteen pairs. Assumes nothing.
+-- The model with a pair taken in has at most sixteen pairs, and so has the model after a search. Assumes nothing.
 use mathlib.Core.Bool.{Bool, true, false, cond}
-use mathlib.Core.List.{List}
-use lib.Ieee.{Float}
-use Rattle.vector.specs.Points.{differenceOf}
-use Rattle.linesearch.specs.declared.Evaluation.{Evaluation}
 use Rattle.hessian.specs.declared.Model.{Model}
-use Rattle.hessian.specs.Step.{InRange, FewPairs, updateOf}
+use Rattle.hessian.specs.Step.{InRange, FewPairs}
 use Rattle.hessian.proofs.Range.{range-few, update-few}
 use Rattle.quasinewton.specs.declared.Fixed.{Fixed}
 use Rattle.quasinewton.specs.declared.Descent.{Descent}
-use Rattle.quasinewton.specs.Step.{storesOf, storedOf}
+use Rattle.quasinewton.specs.Step.{pairStepOf, pairChangeOf, storesPairOf, updatedOf, modelAfterOf}
 
-pub stored-few : (fixed : Fixed) (q : Descent) (m : Model) (t : Evaluation) → InRange m → FewPairs (storedOf fixed q m t)
-unfolding storedOf
-stored-few fixed q m t r = go (storesOf s y (fixed .n))
+pub updated-few : (fixed : Fixed) (q : Descent) (m : Model) → InRange m → FewPairs (updatedOf fixed q m)
+unfolding updatedOf
+updated-few fixed q m r = update-few m (pairStepOf q (fixed .n)) (pairChangeOf q (fixed .n)) (fixed .n) r
+
+pub after-few : (fixed : Fixed) (q : Descent) (m : Model) → InRange m → FewPairs (modelAfterOf fixed q m)
+unfolding modelAfterOf
+after-few fixed q m r = go (storesPairOf fixed q)
   where
-    s : List Float
-    s = differenceOf (t .x) (q .line .x) (fixed .n)
-
-    y : List Float
-    y = differenceOf (t .g) (q .line .g) (fixed .n)
-
-    go : (b : Bool) → FewPairs (cond b (updateOf m s y (fixed .n)) m)
-    go true = update-few m s y (fixed .n) r
+    go : (b : Bool) → FewPairs (cond b (updatedOf fixed q m) m)
+    go true = updated-few fixed q m r
     go false = range-few m r

@@ -1,5 +1,6 @@
 -- What each move does to the record of a gradient fit. A move takes what is told for the open question, and gives the record with the next question in it, or at rest: at the
--- head of a round, or with its search ended. From there `settledOf` goes on, with the model, to the next question or the end. Definitions only.
+-- head of a round, or with its search ended. From there `settledOf` goes on, with the model, to the next question or the end. The code goes on in two parts: `modelAfterOf`
+-- takes a pair into the model, and `onwardOf` moves the record, with that model. Definitions only.
 use Prim.Native.Nat.{ℕ, _+_}
 use mathlib.Core.Bool.{Bool, true, false, not, cond}
 use mathlib.Core.List.{List}
@@ -23,7 +24,6 @@ use Rattle.hessian.specs.Algorithm.{one}
 use Rattle.hessian.specs.Step.{directionOf, updateOf}
 use Rattle.quasinewton.specs.declared.Fixed.{Fixed}
 use Rattle.quasinewton.specs.declared.Descent.{Descent}
-use Rattle.quasinewton.specs.declared.Moved.{Moved}
 
 -- ---- what the open question is for, or how the fit ended
 
@@ -161,6 +161,11 @@ headedOf fixed q m fevals =
 
 -- ---- after a search
 
+-- the record and the model, where both have moved
+pub record Moved : Type 0 where
+  pub descent : Descent
+  pub model : Model
+
 abbrev pub moved : Descent → Model → Moved
 moved q m = record { descent = q; model = m }
 
@@ -210,6 +215,53 @@ settledOf fixed q m fevals =
     (cond (not (eqb (q .phase) searching)) (moved q m)
     (cond (eqb (q .search .phase) linesearch.found) (succeededOf fixed q m (q .search .best) fevals)
     (cond (eqb (q .search .phase) linesearch.failed) (moved (missedOf q (q .search .best)) m) (moved q m))))
+
+-- ---- the same in parts, as the code has it: the model, then the record
+
+-- s and y of the step to the search's best trial
+abbrev pub pairStepOf : Descent → ℕ → List Float
+pairStepOf q n = differenceOf (q .search .best .x) (q .line .x) n
+
+abbrev pub pairChangeOf : Descent → ℕ → List Float
+pairChangeOf q n = differenceOf (q .search .best .g) (q .line .g) n
+
+-- whether that pair is taken in: the search has met both conditions, at a finite gradient, and the curvature is enough
+unfoldable pub storesPairOf : Fixed → Descent → Bool
+storesPairOf fixed q =
+    let n = fixed .n in
+    cond (not (eqb (q .phase) searching)) false
+    (cond (not (eqb (q .search .phase) linesearch.found)) false
+    (cond (not (allFiniteOf (q .search .best .g) n)) false (storesOf (pairStepOf q n) (pairChangeOf q n) n)))
+
+-- the model with that pair taken in
+unfoldable pub updatedOf : Fixed → Descent → Model → Model
+updatedOf fixed q m = updateOf m (pairStepOf q (fixed .n)) (pairChangeOf q (fixed .n)) (fixed .n)
+
+-- the model at the next head: it changes where a pair is stored, and nowhere else
+unfoldable pub modelAfterOf : Fixed → Descent → Model → Model
+modelAfterOf fixed q m = cond (storesPairOf fixed q) (updatedOf fixed q m) m
+
+-- the tests after the step to t, which do not read the model: past them the record is at the next head
+unfoldable pub testedOf : Fixed → Descent → Evaluation → Descent
+testedOf fixed q t =
+    let o = fixed .options in
+    let p = steppedOf q t in
+    cond (not (allFiniteOf (t .g) (fixed .n))) (lowerOf q byGradientFailed t)
+    (cond (smallDecreaseOf (o .ftol) (q .line .f) (t .trial .value)) (inPhase p byFunction)
+    (cond (smallStepOf (o .xtol) (q .line .x) (t .x) (fixed .n)) (inPhase p byStep) p))
+
+-- after a search that has ended: at the next head, or at the fit's end; any other record stays as it is
+unfoldable pub arrivedOf : Fixed → Descent → Descent
+arrivedOf fixed q =
+    cond (not (eqb (q .phase) searching)) q
+    (cond (eqb (q .search .phase) linesearch.found) (testedOf fixed q (q .search .best))
+    (cond (eqb (q .search .phase) linesearch.failed) (missedOf q (q .search .best)) q))
+
+-- from there through the head of a round; m is the model after the search
+unfoldable pub onwardOf : Fixed → Descent → Model → ℕ → Descent
+onwardOf fixed q m fevals =
+    let w = arrivedOf fixed q in
+    cond (eqb (w .phase) atHead) (headedOf fixed w m fevals) w
 
 -- whether the record waits for an answer
 unfoldable pub asksOf : Descent → Bool

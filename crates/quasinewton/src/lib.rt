@@ -16,9 +16,9 @@ use objective::Differences;
 use protocol::GradientOptions;
 ghost use mathlib.Core.Path.{_≡_};
 ghost use Prim.Native.Nat.{_≤_};
-ghost use Rattle.hessian.specs.Step.{InRange};
+ghost use Rattle.hessian.specs.Step.{InRange, FewPairs};
 ghost use Rattle.linesearch.specs.Step.{noTrial};
-ghost use Rattle.quasinewton.specs.Step.{settledOf, asksOf, gradientDueOf, probeOf, toldOf, toldGradientOf, idleOf, startOf};
+ghost use Rattle.quasinewton.specs.Step.{storesPairOf, updatedOf, arrivedOf, onwardOf, asksOf, gradientDueOf, probeOf, toldOf, toldGradientOf, idleOf, startOf};
 
 // What the open question is for: the first value, the first gradient, its differences, or a search.
 const FIRST_VALUE: u64 = 1;
@@ -65,42 +65,72 @@ pub struct Descent {
     pub diff: Differences,
 }
 
-// The record and the model, where both have moved.
-pub struct Moved {
-    pub descent: Descent,
-    pub model: Model,
+// Whether the pair of the step to the search's best trial is taken into the model: the search has met both
+// conditions, the gradient there is finite, and the curvature along the step is enough.
+pub fn stores(fixed: Fixed, q: Descent) -> bool
+    requires { ⌜ fixed .n ≤ 16 ⌝ }
+    ensures { λ r. ⌜ r ≡ storesPairOf fixed q ⌝ }
+{
+    if q.phase != SEARCHING {
+        return false;
+    }
+    if q.search.phase != FOUND {
+        return false;
+    }
+    let t = q.search.best;
+    let g = t.g;
+    if !vector::all_finite(g, fixed.n) {
+        return false;
+    }
+    let step = outcomes::pair_step(q, fixed.n);
+    let change = outcomes::pair_change(q, fixed.n);
+    formulas::stores(step, change, fixed.n)
 }
 
-// From the head of a round, or from a search that has ended, to the next question or the end. A record
-// that is at neither stays as it is.
-pub fn settled(fixed: Fixed, q: Descent, m: Model, fevals: u64) -> Moved
+// The model with that pair taken in. Only `stores` says whether it is to be.
+pub fn updated(fixed: Fixed, q: Descent, m: Model) -> Model
     requires { ⌜ fixed .n ≤ 16 ⌝ }
     requires { ⌜ InRange m ⌝ }
-    ensures { λ r. ⌜ r ≡ settledOf fixed q m fevals ⌝ }
+    ensures { λ r. ⌜ r ≡ updatedOf fixed q m ⌝ }
+{
+    let step = outcomes::pair_step(q, fixed.n);
+    let change = outcomes::pair_change(q, fixed.n);
+    hessian::update(m, step, change, fixed.n)
+}
+
+// After a search that has ended, at the head of the next round or at the fit's end. Any other record stays
+// as it is.
+fn arrived(fixed: Fixed, q: Descent) -> Descent
+    requires { ⌜ fixed .n ≤ 16 ⌝ }
+    ensures { λ r. ⌜ r ≡ arrivedOf fixed q ⌝ }
 {
     let s = q.search;
     let t = s.best;
-    if q.phase == AT_HEAD {
-        let descent = rounds::headed(fixed, q, m, fevals);
-        return Moved { descent, model: m };
-    }
     if q.phase != SEARCHING {
-        return Moved {
-            descent: q,
-            model: m,
-        };
+        return q;
     }
     if s.phase == FOUND {
-        return outcomes::succeeded(fixed, q, m, t, fevals);
+        return outcomes::tested(fixed, q, t);
     }
     if s.phase == FAILED {
-        let descent = outcomes::missed(q, t);
-        return Moved { descent, model: m };
+        return outcomes::missed(q, t);
     }
-    Moved {
-        descent: q,
-        model: m,
+    q
+}
+
+// From the head of a round, or from a search that has ended, to the next question or the end. A record
+// that is at neither stays as it is. The model is the one after the search: the caller keeps it, and
+// puts `updated` in its place where the pair is stored.
+pub fn settled(fixed: Fixed, q: Descent, m: Model, fevals: u64) -> Descent
+    requires { ⌜ fixed .n ≤ 16 ⌝ }
+    requires { ⌜ FewPairs m ⌝ }
+    ensures { λ r. ⌜ r ≡ onwardOf fixed q m fevals ⌝ }
+{
+    let w = arrived(fixed, q);
+    if w.phase == AT_HEAD {
+        return rounds::headed(fixed, w, m, fevals);
     }
+    w
 }
 
 // Whether the record waits for an answer.

@@ -1,15 +1,12 @@
-// What follows a search: the model and the record after its step, and the tests after it.
+// What follows a search: the record after its step, and the tests after it.
 use crate::Descent;
 use crate::Fixed;
-use crate::Moved;
 use crate::formulas;
 use crate::rounds;
-use hessian::Model;
 use linesearch::Evaluation;
 ghost use mathlib.Core.Path.{_≡_};
 ghost use Prim.Native.Nat.{_≤_};
-ghost use Rattle.hessian.specs.Step.{InRange};
-ghost use Rattle.quasinewton.specs.Step.{lowerOf, missedOf, storedOf, steppedOf, succeededOf};
+ghost use Rattle.quasinewton.specs.Step.{lowerOf, missedOf, pairStepOf, pairChangeOf, steppedOf, testedOf};
 
 // How a fit ends: FunctionTolerance, StepTolerance, LineSearchFailed, GradientFailed.
 const BY_FUNCTION: u64 = 6;
@@ -49,24 +46,30 @@ pub fn missed(q: Descent, t: Evaluation) -> Descent
     rounds::in_phase(q, BY_SEARCH)
 }
 
-// The model after the step to t.
-fn stored(fixed: Fixed, q: Descent, m: Model, t: Evaluation) -> Model
-    requires { ⌜ fixed .n ≤ 16 ⌝ }
-    requires { ⌜ InRange m ⌝ }
-    ensures { λ r. ⌜ r ≡ storedOf fixed q m t ⌝ }
+// s of the pair: the step to the search's best trial.
+pub fn pair_step(q: Descent, n: usize) -> [f64; 16]
+    requires { ⌜ n ≤ 16 ⌝ }
+    ensures { λ r. ⌜ r ≡ pairStepOf q n ⌝ }
 {
-    let n = fixed.n;
     let l = q.line;
-    let x = l.x;
-    let g = l.g;
-    let tx = t.x;
-    let tg = t.g;
-    let s = vector::difference(tx, x, n);
-    let y = vector::difference(tg, g, n);
-    if formulas::stores(s, y, n) {
-        return hessian::update(m, s, y, n);
-    }
-    m
+    let s = q.search;
+    let t = s.best;
+    let from = l.x;
+    let to = t.x;
+    vector::difference(to, from, n)
+}
+
+// y of the pair: the change of the gradient along that step.
+pub fn pair_change(q: Descent, n: usize) -> [f64; 16]
+    requires { ⌜ n ≤ 16 ⌝ }
+    ensures { λ r. ⌜ r ≡ pairChangeOf q n ⌝ }
+{
+    let l = q.line;
+    let s = q.search;
+    let t = s.best;
+    let from = l.g;
+    let to = t.g;
+    vector::difference(to, from, n)
 }
 
 // The record after the step to t.
@@ -86,11 +89,11 @@ fn stepped(q: Descent, t: Evaluation) -> Descent
     w
 }
 
-// The search has met both conditions at t: its gradient, then the tests after a step, then the next head.
-pub fn succeeded(fixed: Fixed, q: Descent, m: Model, t: Evaluation, fevals: u64) -> Moved
+// The search has met both conditions at t: its gradient, then the tests after a step. Past them the record
+// is at the next head.
+pub fn tested(fixed: Fixed, q: Descent, t: Evaluation) -> Descent
     requires { ⌜ fixed .n ≤ 16 ⌝ }
-    requires { ⌜ InRange m ⌝ }
-    ensures { λ r. ⌜ r ≡ succeededOf fixed q m t fevals ⌝ }
+    ensures { λ r. ⌜ r ≡ testedOf fixed q t ⌝ }
 {
     let o = fixed.options;
     let l = q.line;
@@ -98,19 +101,14 @@ pub fn succeeded(fixed: Fixed, q: Descent, m: Model, t: Evaluation, fevals: u64)
     let tx = t.x;
     let tg = t.g;
     if !vector::all_finite(tg, fixed.n) {
-        let descent = lower(q, BY_GRADIENT_FAILED, t);
-        return Moved { descent, model: m };
+        return lower(q, BY_GRADIENT_FAILED, t);
     }
     let p = stepped(q, t);
-    let model = stored(fixed, q, m, t);
     if formulas::small_decrease(o.ftol, l.f, t.trial.value) {
-        let descent = rounds::in_phase(p, BY_FUNCTION);
-        return Moved { descent, model };
+        return rounds::in_phase(p, BY_FUNCTION);
     }
     if formulas::small_step(o.xtol, x, tx, fixed.n) {
-        let descent = rounds::in_phase(p, BY_STEP);
-        return Moved { descent, model };
+        return rounds::in_phase(p, BY_STEP);
     }
-    let descent = rounds::headed(fixed, p, model, fevals);
-    Moved { descent, model }
+    p
 }

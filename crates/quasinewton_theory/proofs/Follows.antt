@@ -29,9 +29,8 @@ use Rattle.linesearch_theory.specs.Follows as searches
 use Rattle.linesearch_theory.proofs.Follows.{search-follows}
 use Rattle.quasinewton.specs.declared.Fixed.{Fixed}
 use Rattle.quasinewton.specs.declared.Descent.{Descent}
-use Rattle.quasinewton.specs.declared.Moved.{Moved}
 use Rattle.quasinewton.specs.Step as step
-use Rattle.quasinewton.specs.Step.{firstDifferences, searching, searchFixed, zeros, storesOf, smallDecreaseOf, smallStepOf, storedOf, succeededOf, settledOf, probeOf, toldOf, toldGradientOf, startOf}
+use Rattle.quasinewton.specs.Step.{firstDifferences, searching, searchFixed, zeros, storesOf, smallDecreaseOf, smallStepOf, Moved, storedOf, succeededOf, settledOf, probeOf, toldOf, toldGradientOf, startOf}
 use Rattle.quasinewton_theory.specs.Follows.{wantsGradient, heardOf, Sixteen, Shaped, ZeroPast, GradientFollows}
 use Rattle.quasinewton_theory.proofs.FollowsEnds.{stored-sized}
 use Rattle.quasinewton_theory.proofs.FollowsAnswers.{follows}

@@ -28,9 +28,8 @@ use Rattle.linesearch_theory.specs.Follows as searches
 use Rattle.linesearch_theory.proofs.Follows.{search-follows}
 use Rattle.quasinewton.specs.declared.Fixed.{Fixed}
 use Rattle.quasinewton.specs.declared.Descent.{Descent}
-use Rattle.quasinewton.specs.declared.Moved.{Moved}
 use Rattle.quasinewton.specs.Step as step
-use Rattle.quasinewton.specs.Step.{firstValue, firstGradient, firstDifferences, searching, byRefusal, inPhase, searchFixed, moved, missedOf, succeededOf, settledOf, asksOf, startOf}
+use Rattle.quasinewton.specs.Step.{firstValue, firstGradient, firstDifferences, searching, byRefusal, inPhase, searchFixed, Moved, moved, missedOf, succeededOf, settledOf, asksOf, startOf}
 use Rattle.quasinewton_theory.specs.Algorithm.{Position, concluded, tests, opened, quasiNewton}
 use Rattle.quasinewton_theory.specs.Follows.{positionOf, reasonOf, endingOf, toDo, allowed, headed, settled, SettlesAsFits, Allows, Shaped, Stands}
 use Rattle.quasinewton_theory.proofs.FollowsRound.{head-does}

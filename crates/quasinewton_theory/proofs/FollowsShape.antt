@@ -23,9 +23,8 @@ use Rattle.linesearch.specs.Start.{lineFromOf, optionsRefusalOf, countsRefusalO
 use Rattle.linesearch.specs.Step as linesearch
 use Rattle.quasinewton.specs.declared.Fixed.{Fixed}
 use Rattle.quasinewton.specs.declared.Descent.{Descent}
-use Rattle.quasinewton.specs.declared.Moved.{Moved}
 use Rattle.quasinewton.specs.Step as step
-use Rattle.quasinewton.specs.Step.{firstValue, firstGradient, firstDifferences, searching, byGradient, byFunction, byStep, byIterations, byFevals, bySearch, byGradientFailed, byRefusal, smallDecreaseOf, smallStepOf, initialStepOf, notDescendingOf, inPhase, refusedBy, withLine, withSearch, withDiff, valuedAt, searchFixed, soughtOf, searchedOf, steepestOf, directedOf, headedOf, lowerOf, missedOf, steppedOf, storedOf, succeededOf, settledOf, gradedOf, differingOf, valuedOf, toldOf, toldGradientOf}
+use Rattle.quasinewton.specs.Step.{firstValue, firstGradient, firstDifferences, searching, byGradient, byFunction, byStep, byIterations, byFevals, bySearch, byGradientFailed, byRefusal, smallDecreaseOf, smallStepOf, initialStepOf, notDescendingOf, inPhase, refusedBy, withLine, withSearch, withDiff, valuedAt, searchFixed, soughtOf, searchedOf, steepestOf, directedOf, headedOf, lowerOf, missedOf, steppedOf, Moved, storedOf, succeededOf, settledOf, gradedOf, differingOf, valuedOf, toldOf, toldGradientOf}
 use Rattle.quasinewton_theory.specs.Follows.{EveryPart}
 
 -- what lasts, where P is of the line's arrays, S of the search and D of the differences

@@ -20,9 +20,8 @@ use Rattle.linesearch.specs.Step as linesearch
 use Rattle.linesearch_theory.proofs.Follows.{search-follows}
 use Rattle.quasinewton.specs.declared.Fixed.{Fixed}
 use Rattle.quasinewton.specs.declared.Descent.{Descent}
-use Rattle.quasinewton.specs.declared.Moved.{Moved}
 use Rattle.quasinewton.specs.Step as step
-use Rattle.quasinewton.specs.Step.{searching, byGradient, byFunction, byStep, byIterations, byFevals, bySearch, byGradientFailed, byRefusal, smallDecreaseOf, smallStepOf, initialStepOf, notDescendingOf, inPhase, refusedBy, withLine, valuedAt, searchFixed, moved, soughtOf, searchedOf, steepestOf, directedOf, headedOf, lowerOf, missedOf, steppedOf, storedOf, succeededOf, settledOf, startOf}
+use Rattle.quasinewton.specs.Step.{searching, byGradient, byFunction, byStep, byIterations, byFevals, bySearch, byGradientFailed, byRefusal, smallDecreaseOf, smallStepOf, initialStepOf, notDescendingOf, inPhase, refusedBy, withLine, valuedAt, searchFixed, Moved, moved, soughtOf, searchedOf, steepestOf, directedOf, headedOf, lowerOf, missedOf, steppedOf, storedOf, succeededOf, settledOf, startOf}
 use Rattle.quasinewton_theory.specs.Follows.{Shaped, Stands}
 use Rattle.quasinewton_theory.proofs.FollowsRound.{options-allow}
 
