@@ -138,20 +138,19 @@ fn flat(tol: f64, least: f64, most: f64) -> bool
     float::abs(most - least) <= float::max(tol, floor(float::abs(least)))
 }
 
-// Whether size and spread of the first n + 1 vertices, in order, are within tolerances or floors.
+// Whether size and spread of the first n + 1 vertices, in order, are within tolerances or floors. The spread
+// first: the size takes all coordinates.
 pub fn converged(o: SimplexOptions, v: [Vertex; 17], n: usize) -> bool
     requires { ⌜ n ≤ 16 ⌝ }
     ensures { λ r. ⌜ r ≡ convergedOf o v n ⌝ }
 {
     let b = v[0];
-    let w = v[n];
-    let x = b.x;
-    let far = size(v, n);
-    let stop = float::max(o.xtol, floor(vector::inf_norm(x, n)));
-    if far <= stop {
-        return flat(o.ftol, b.f, w.f);
+    if !flat(o.ftol, b.f, v[n].f) {
+        return false;
     }
-    false
+    let x = b.x;
+    let stop = float::max(o.xtol, floor(vector::inf_norm(x, n)));
+    size(v, n) <= stop
 }
 
 // Only a smaller value takes the best's place.
