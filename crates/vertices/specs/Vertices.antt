@@ -26,7 +26,7 @@ vertexAt v i = getD v i noVertex
 unfoldable pub putOf : Vertex → List Vertex → ℕ → ℕ → List Vertex
 putOf u v i n = take i v ++ (insert u (slice (suc i) (suc n) v) ++ drop (suc n) v)
 
--- vertex i put among those after it up to n, which are in order
+-- vertex i put among those after it up to n, which are in order: what a turn of `sorted` does
 unfoldable pub insertedOf : List Vertex → ℕ → ℕ → List Vertex
 unfolding putOf
 insertedOf v i n = putOf (vertexAt v i) v i n

@@ -3,7 +3,7 @@ use protocol::SimplexOptions;
 ghost use mathlib.Core.Path.{_≡_};
 ghost use Prim.Native.Nat.{_≤_, _<_};
 ghost use Rattle.vertices.specs.Method.{adapts, beta, gamma, delta, displaced, resolution, better};
-ghost use Rattle.vertices.specs.Vertices.{insertedOf, sortedOf, summedOf, centroidOf, cornerOf, sizeOf, anyFiniteOf, flatOf, convergedOf};
+ghost use Rattle.vertices.specs.Vertices.{sortedOf, summedOf, centroidOf, cornerOf, sizeOf, anyFiniteOf, flatOf, convergedOf};
 
 // The least edge of a new simplex.
 const ZERO_STEP: f64 = 0.00025;
@@ -18,30 +18,8 @@ pub struct Vertex {
     pub f: f64,
 }
 
-// Vertex i put among those after it up to n, which are in order: behind those that precede it, so that
-// equal ones stay as they stood.
-fn inserted(v: [Vertex; 17], i: usize, n: usize) -> [Vertex; 17]
-    requires { ⌜ i ≤ n ⌝ }
-    requires { ⌜ n ≤ 16 ⌝ }
-    ensures { λ r. ⌜ r ≡ insertedOf v i n ⌝ }
-{
-    let u = v[i];
-    let mut w = v;
-    let mut j = i;
-    while j < n {
-        let p = w[j + 1];
-        if !float::precedes(p.f, u.f) {
-            w[j] = u;
-            return w;
-        }
-        w[j] = p;
-        j += 1;
-    }
-    w[j] = u;
-    w
-}
-
-// The first n + 1 vertices in order, from the last on: each is put among those after it.
+// The first n + 1 vertices in order, from the last on: each is put among those after it, behind those that
+// precede it, so that equal ones stay as they stood. In place: an array passed to a call is copied whole.
 pub fn sorted(v: [Vertex; 17], n: usize) -> [Vertex; 17]
     requires { ⌜ n ≤ 16 ⌝ }
     ensures { λ r. ⌜ r ≡ sortedOf v n ⌝ }
@@ -49,10 +27,17 @@ pub fn sorted(v: [Vertex; 17], n: usize) -> [Vertex; 17]
     let mut w = v;
     let mut i = n;
     while 0 < i {
-        let k = i - 1;
-        let next = inserted(w, k, n);
-        w = next;
-        i = k;
+        i -= 1;
+        let u = w[i];
+        let mut j = i;
+        while j < n {
+            if !float::precedes(w[j + 1].f, u.f) {
+                break;
+            }
+            w[j] = w[j + 1];
+            j += 1;
+        }
+        w[j] = u;
     }
     w
 }
@@ -153,20 +138,19 @@ fn flat(tol: f64, least: f64, most: f64) -> bool
     float::abs(most - least) <= float::max(tol, floor(float::abs(least)))
 }
 
-// Whether size and spread of the first n + 1 vertices, in order, are within tolerances or floors.
+// Whether size and spread of the first n + 1 vertices, in order, are within tolerances or floors. The spread
+// first: the size takes all coordinates.
 pub fn converged(o: SimplexOptions, v: [Vertex; 17], n: usize) -> bool
     requires { ⌜ n ≤ 16 ⌝ }
     ensures { λ r. ⌜ r ≡ convergedOf o v n ⌝ }
 {
     let b = v[0];
-    let w = v[n];
-    let x = b.x;
-    let far = size(v, n);
-    let stop = float::max(o.xtol, floor(vector::inf_norm(x, n)));
-    if far <= stop {
-        return flat(o.ftol, b.f, w.f);
+    if !flat(o.ftol, b.f, v[n].f) {
+        return false;
     }
-    false
+    let x = b.x;
+    let stop = float::max(o.xtol, floor(vector::inf_norm(x, n)));
+    size(v, n) <= stop
 }
 
 // Only a smaller value takes the best's place.
