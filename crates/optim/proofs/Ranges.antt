@@ -150,6 +150,10 @@ pub begun-stands : (x : List Float) → length x ≤ 16 → Stands (begunRecordO
 unfolding begunRecordOf begunOf
 begun-stands x h = record { few = h; numbers = zero-le; coordinate = λ o. zero-le }
 
+pub begun-within : (x : List Float) → begunRecordOf x .diff .at ≤ begunRecordOf x .n
+unfolding begunRecordOf begunOf
+begun-within x = zero-le
+
 pub simplex-stands : (point : List Float) (n : ℕ) (o : SimplexOptions) (a : Allowances) → n ≤ 16 → Stands (simplexRecordOf point n o a)
 unfolding simplexRecordOf
 simplex-stands point n o a h = record { few = h; numbers = zero-le; coordinate = λ o. absurd (o .simplex refl) }

@@ -1,17 +1,17 @@
 // The engine: one start for each job, and one call for each answer. The record goes in by value and
 // comes back beside the reply.
-use protocol::Allowances;
 use neldermead::Simplex;
+use protocol::Allowances;
 use protocol::GradientOptions;
 use protocol::Kind;
 use protocol::SimplexOptions;
 use protocol::WolfeOptions;
+use quasinewton::Descent;
 pub use records::Answered;
 use records::Counts;
 pub use records::Record;
 pub use records::blank;
 pub use records::valid;
-use quasinewton::Descent;
 use stands::Spoken;
 ghost use mathlib.Core.Path.{_≡_};
 ghost use Prim.Native.Nat.{_≤_, _<_};
@@ -205,6 +205,17 @@ pub fn answer(r: Record, number: u64, kind: u8, words: &[f64]) -> Answered
             q.simplex = next;
         } else if q.job == SEARCH {
             let next = search_told(q, words);
+            q.descent = next;
+        } else if records::gradient_job(q.job) {
+            let told = descent_told(q, words);
+            let fixed = stands::gradient_fixed(q);
+            if quasinewton::stores(fixed, told) {
+                let old = q.model;
+                let model = quasinewton::updated(fixed, told, old);
+                q.model = model;
+            }
+            let model = q.model;
+            let next = quasinewton::settled(fixed, told, model, counts.fevals);
             q.descent = next;
         } else {
             let old = q.diff;

@@ -3,10 +3,16 @@ use borrow.Author.Needs.{needs}
 use borrow.Author.Tests.{le-ltb, lt-ltb}
 use Rattle.optim.specs.Start.{differencesOf}
 use mathlib.Core.Path.{sym, subst}
+use Prim.Native.Nat.{_≤_}
+use Rattle.records.specs.declared.Record.{Record}
 use Rattle.records.specs.Record.{Stands}
-use Rattle.optim.proofs.Ranges.{begun-stands}
+use Rattle.optim.proofs.Ranges.{begun-stands, begun-within}
+use Rattle.optim.proofs.Openings.{differences-open}
 use Rattle.optim.proofs.differences.Statement.{statement}
 use Rattle.optim.proofs.differences.Tie as tie
+
+abbrev Within : Record → Type 0
+Within r = r .diff .at ≤ r .n
 
 pub differences-spec : {M : Type 1} → statement M
 unfolding differencesOf
@@ -14,8 +20,8 @@ differences-spec =
     tie.close
     (tie.spec
     (λ c κs. search needs)
+    (λ c. rw (← c .refused .ensures, lt-ltb _ _ (c .before .if1 .taken)))
     (λ c κs. search needs)
-    (λ c. rw (← c .before .blank .ensures, ← c .refused .ensures, lt-ltb _ _ (c .before .before .if1 .taken)))
+    (λ c κs. (subst Stands (sym (c .begun-record .ensures)) (begun-stands (c .before .before .before .args .x .now) (c .before .if1 .left)), subst Within (sym (c .begun-record .ensures)) (begun-within _)))
     (λ c κs. search needs)
-    (λ c κs. subst Stands (sym (c .begun-record .ensures)) (begun-stands (c .before .before .before .args .x .now) (c .before .if1 .left)))
-    (λ c. rw (← c .before .begun-record .ensures, ← c .standing .ensures, le-ltb _ _ (c .before .before .if1 .left))))
+    (λ c. rw (differences-open _, ← c .before .before .begun-record .ensures, ← c .before .standing-differences .ensures, ← c .answered .ensures, le-ltb _ _ (c .before .before .before .if1 .left))))

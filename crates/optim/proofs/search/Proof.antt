@@ -9,6 +9,7 @@ use Rattle.records.specs.Record.{Stands}
 use native.Mathlib.Nat.{le-of-eq, le-refl}
 use Rattle.starts.proofs.Limits.{search-limits}
 use Rattle.optim.proofs.Ranges.{search-stands}
+use Rattle.optim.proofs.Openings.{search-opens}
 use Rattle.optim.proofs.search.Statement.{statement}
 use Rattle.optim.proofs.search.Tie as tie
 
@@ -19,16 +20,15 @@ search-spec =
     (tie.spec
     (λ c κs. search needs)
     (λ c κs. search needs)
-    (λ c κs. search needs)
-    (λ c. rw (← c .before .before .before .before .search-refusal .ensures, ← c .before .blank .ensures, ← c .refused .ensures, ne-eqb _ _ (c .before .before .if1 .taken)))
-    (λ c κs. (search-limits (length (c .before .before .before .before .before .before .args .x .now)) (length (c .before .before .before .before .before .before .args .d .now)) (length (c .before .before .before .before .before .before .args .g .now)) (c .before .before .before .before .before .before .args .o) (sym (ap (λ (w : Refusal). w .number) (c .before .before .search-refusal .ensures)) ∙ c .if1 .left) .0, le-refl _))
+    (λ c. rw (← c .before .before .before .search-refusal .ensures, ← c .refused .ensures, ne-eqb _ _ (c .before .if1 .taken)))
+    (λ c κs. ((search-limits (length (c .before .before .before .before .before .before .args .x .now)) (length (c .before .before .before .before .before .before .args .d .now)) (length (c .before .before .before .before .before .before .args .g .now)) (c .before .before .before .before .before .before .args .o) (sym (ap (λ (w : Refusal). w .number) (c .before .before .search-refusal .ensures)) ∙ c .if1 .left)) .0, le-refl _))
     (λ c κs. (search-limits (length (c .before .before .before .before .before .before .before .args .x .now)) (length (c .before .before .before .before .before .before .before .args .d .now)) (length (c .before .before .before .before .before .before .before .args .g .now)) (c .before .before .before .before .before .before .before .args .o) (sym (ap (λ (w : Refusal). w .number) (c .before .before .before .search-refusal .ensures)) ∙ c .before .if1 .left) .0, le-of-eq (sym (search-limits (length (c .before .before .before .before .before .before .before .args .x .now)) (length (c .before .before .before .before .before .before .before .args .d .now)) (length (c .before .before .before .before .before .before .before .args .g .now)) (c .before .before .before .before .before .before .before .args .o) (sym (ap (λ (w : Refusal). w .number) (c .before .before .before .search-refusal .ensures)) ∙ c .before .if1 .left) .1))))
     (λ c κs. (search-limits (length (c .before .before .before .before .before .before .before .before .args .x .now)) (length (c .before .before .before .before .before .before .before .before .args .d .now)) (length (c .before .before .before .before .before .before .before .before .args .g .now)) (c .before .before .before .before .before .before .before .before .args .o) (sym (ap (λ (w : Refusal). w .number) (c .before .before .before .before .search-refusal .ensures)) ∙ c .before .before .if1 .left) .0, le-of-eq (sym (search-limits (length (c .before .before .before .before .before .before .before .before .args .x .now)) (length (c .before .before .before .before .before .before .before .before .args .d .now)) (length (c .before .before .before .before .before .before .before .before .args .g .now)) (c .before .before .before .before .before .before .before .before .args .o) (sym (ap (λ (w : Refusal). w .number) (c .before .before .before .before .search-refusal .ensures)) ∙ c .before .before .if1 .left) .2))))
-    (λ c κs. search-limits (length (c .before .before .before .before .before .before .before .before .before .args .x .now)) (length (c .before .before .before .before .before .before .before .before .before .args .d .now)) (length (c .before .before .before .before .before .before .before .before .before .args .g .now)) (c .before .before .before .before .before .before .before .before .before .args .o) (sym (ap (λ (w : Refusal). w .number) (c .before .before .before .before .before .search-refusal .ensures)) ∙ c .before .before .before .if1 .left) .0)
-    (λ c κs. search-limits (length (c .before .before .before .before .before .before .before .before .before .before .args .x .now)) (length (c .before .before .before .before .before .before .before .before .before .before .args .d .now)) (length (c .before .before .before .before .before .before .before .before .before .before .args .g .now)) (c .before .before .before .before .before .before .before .before .before .before .args .o) (sym (ap (λ (w : Refusal). w .number) (c .before .before .before .before .before .before .search-refusal .ensures)) ∙ c .before .before .before .before .if1 .left) .0)
+    (λ c κs. (search-limits (length (c .before .before .before .before .before .before .before .before .before .args .x .now)) (length (c .before .before .before .before .before .before .before .before .before .args .d .now)) (length (c .before .before .before .before .before .before .before .before .before .args .g .now)) (c .before .before .before .before .before .before .before .before .before .args .o) (sym (ap (λ (w : Refusal). w .number) (c .before .before .before .before .before .search-refusal .ensures)) ∙ c .before .before .before .if1 .left)) .0)
+    (λ c κs. (search-limits (length (c .before .before .before .before .before .before .before .before .before .before .args .x .now)) (length (c .before .before .before .before .before .before .before .before .before .before .args .d .now)) (length (c .before .before .before .before .before .before .before .before .before .before .args .g .now)) (c .before .before .before .before .before .before .before .before .before .before .args .o) (sym (ap (λ (w : Refusal). w .number) (c .before .before .before .before .before .before .search-refusal .ensures)) ∙ c .before .before .before .before .if1 .left)) .0)
     (λ c κs. search needs)
+    (λ c. rw (← c .before .before .before .before .before .before .before .before .before .before .search-refusal .ensures, ← c .before .before .before .before .before .before .before .from-slice .ensures, ← c .before .before .before .before .before .before .from-slice2 .ensures, ← c .before .before .before .before .before .from-slice3 .ensures, ← c .before .before .before .before .line-from .ensures, ← c .before .before .before .line-refusal .ensures, ← c .refused2 .ensures, eq-eqb _ _ (c .before .before .before .before .before .before .before .before .if1 .left), ne-eqb _ _ (c .before .if2 .taken)))
     (λ c κs. search needs)
-    (λ c. rw (← c .before .before .before .before .before .before .before .before .before .before .before .search-refusal .ensures, ← c .before .before .before .before .before .before .before .before .from-slice .ensures, ← c .before .before .before .before .before .before .before .from-slice2 .ensures, ← c .before .before .before .before .before .before .from-slice3 .ensures, ← c .before .before .before .before .before .line-from .ensures, ← c .before .before .before .before .line-refusal .ensures, ← c .before .blank2 .ensures, ← c .refused2 .ensures, eq-eqb _ _ (c .before .before .before .before .before .before .before .before .before .if1 .left), ne-eqb _ _ (c .before .before .if2 .taken)))
+    (λ c κs. subst Stands (sym (c .search-record .ensures)) (search-stands _ _ _ _ _ ((search-limits (length (c .before .before .before .before .before .before .before .before .before .before .before .before .before .before .args .x .now)) (length (c .before .before .before .before .before .before .before .before .before .before .before .before .before .before .args .d .now)) (length (c .before .before .before .before .before .before .before .before .before .before .before .before .before .before .args .g .now)) (c .before .before .before .before .before .before .before .before .before .before .before .before .before .before .args .o) (sym (ap (λ (w : Refusal). w .number) (c .before .before .before .before .before .before .before .before .before .before .search-refusal .ensures)) ∙ c .before .before .before .before .before .before .before .before .if1 .left)) .0)))
     (λ c κs. search needs)
-    (λ c κs. subst Stands (sym (c .search-record .ensures)) (search-stands _ _ _ _ _ (search-limits (length (c .before .before .before .before .before .before .before .before .before .before .before .before .before .before .args .x .now)) (length (c .before .before .before .before .before .before .before .before .before .before .before .before .before .before .args .d .now)) (length (c .before .before .before .before .before .before .before .before .before .before .before .before .before .before .args .g .now)) (c .before .before .before .before .before .before .before .before .before .before .before .before .before .before .args .o) (sym (ap (λ (w : Refusal). w .number) (c .before .before .before .before .before .before .before .before .before .before .search-refusal .ensures)) ∙ c .before .before .before .before .before .before .before .before .if1 .left) .0)))
-    (λ c. rw (← c .before .before .before .before .before .before .before .before .before .before .before .search-refusal .ensures, ← c .before .before .before .before .before .before .before .before .from-slice .ensures, ← c .before .before .before .before .before .before .before .from-slice2 .ensures, ← c .before .before .before .before .before .before .from-slice3 .ensures, ← c .before .before .before .before .before .line-from .ensures, ← c .before .before .before .before .line-refusal .ensures, ← c .before .search-record .ensures, ← c .standing .ensures, eq-eqb _ _ (c .before .before .before .before .before .before .before .before .before .if1 .left), eq-eqb _ _ (c .before .before .if2 .left))))
+    (λ c. rw (← c .before .before .before .before .before .before .before .before .before .before .before .before .search-refusal .ensures, ← c .before .before .before .before .before .before .before .before .before .from-slice .ensures, ← c .before .before .before .before .before .before .before .before .from-slice2 .ensures, ← c .before .before .before .before .before .before .before .from-slice3 .ensures, ← c .before .before .before .before .before .before .line-from .ensures, ← c .before .before .before .before .before .line-refusal .ensures, search-opens _ _ _ _ _, ← c .before .before .search-record .ensures, ← c .before .standing-search .ensures, ← c .answered .ensures, eq-eqb _ _ (c .before .before .before .before .before .before .before .before .before .before .if1 .left), eq-eqb _ _ (c .before .before .before .if2 .left))))

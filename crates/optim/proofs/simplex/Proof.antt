@@ -9,6 +9,7 @@ use Rattle.records.specs.Record.{Stands}
 use native.Mathlib.Nat.{le-refl}
 use Rattle.starts.proofs.Limits.{simplex-limits}
 use Rattle.optim.proofs.Ranges.{simplex-stands}
+use Rattle.optim.proofs.Openings.{simplex-asks}
 use Rattle.optim.proofs.simplex.Statement.{statement}
 use Rattle.optim.proofs.simplex.Tie as tie
 
@@ -19,13 +20,12 @@ simplex-spec =
     (tie.spec
     (λ c κs. search needs)
     (λ c κs. search needs)
+    (λ c. rw (← c .before .before .before .simplex-refusal .ensures, ← c .refused .ensures, ne-eqb _ _ (c .before .if1 .taken)))
+    (λ c κs. ((simplex-limits (length (c .before .before .before .before .args .x .now)) (c .before .before .before .before .args .o) (c .before .before .before .before .args .a) (sym (ap (λ (w : Refusal). w .number) (c .before .before .simplex-refusal .ensures)) ∙ c .if1 .left)) .0, le-refl _))
+    (λ c κs. (simplex-limits (length (c .before .before .before .before .before .args .x .now)) (c .before .before .before .before .before .args .o) (c .before .before .before .before .before .args .a) (sym (ap (λ (w : Refusal). w .number) (c .before .before .before .simplex-refusal .ensures)) ∙ c .before .if1 .left)) .0)
     (λ c κs. search needs)
-    (λ c. rw (← c .before .before .before .before .simplex-refusal .ensures, ← c .before .blank .ensures, ← c .refused .ensures, ne-eqb _ _ (c .before .before .if1 .taken)))
-    (λ c κs. (simplex-limits (length (c .before .before .before .before .args .x .now)) (c .before .before .before .before .args .o) (c .before .before .before .before .args .a) (sym (ap (λ (w : Refusal). w .number) (c .before .before .simplex-refusal .ensures)) ∙ c .if1 .left) .0, le-refl _))
-    (λ c κs. simplex-limits (length (c .before .before .before .before .before .args .x .now)) (c .before .before .before .before .before .args .o) (c .before .before .before .before .before .args .a) (sym (ap (λ (w : Refusal). w .number) (c .before .before .before .simplex-refusal .ensures)) ∙ c .before .if1 .left) .0)
+    (λ c. rw (← c .before .before .before .before .before .before .simplex-refusal .ensures, ← c .before .before .before .from-slice .ensures, ← c .before .before .all-finite .ensures, ← c .refused2 .ensures, eq-eqb _ _ (c .before .before .before .before .if1 .left), c .before .if2 .taken))
+    (λ c κs. (simplex-limits (length (c .before .before .before .before .before .before .before .args .x .now)) (c .before .before .before .before .before .before .before .args .o) (c .before .before .before .before .before .before .before .args .a) (sym (ap (λ (w : Refusal). w .number) (c .before .before .before .before .before .simplex-refusal .ensures)) ∙ c .before .before .before .if1 .left)))
+    (λ c κs. subst Stands (sym (c .simplex-record .ensures)) (simplex-stands _ _ _ _ ((simplex-limits (length (c .before .before .before .before .before .before .before .before .args .x .now)) (c .before .before .before .before .before .before .before .before .args .o) (c .before .before .before .before .before .before .before .before .args .a) (sym (ap (λ (w : Refusal). w .number) (c .before .before .before .before .before .before .simplex-refusal .ensures)) ∙ c .before .before .before .before .if1 .left)) .0)))
     (λ c κs. search needs)
-    (λ c κs. search needs)
-    (λ c. rw (← c .before .before .before .before .before .before .before .simplex-refusal .ensures, ← c .before .before .before .before .from-slice .ensures, ← c .before .before .before .all-finite .ensures, ← c .before .blank2 .ensures, ← c .refused2 .ensures, eq-eqb _ _ (c .before .before .before .before .before .if1 .left), c .before .before .if2 .taken))
-    (λ c κs. simplex-limits (length (c .before .before .before .before .before .before .before .args .x .now)) (c .before .before .before .before .before .before .before .args .o) (c .before .before .before .before .before .before .before .args .a) (sym (ap (λ (w : Refusal). w .number) (c .before .before .before .before .before .simplex-refusal .ensures)) ∙ c .before .before .before .if1 .left))
-    (λ c κs. subst Stands (sym (c .simplex-record .ensures)) (simplex-stands _ _ _ _ (simplex-limits (length (c .before .before .before .before .before .before .before .before .args .x .now)) (c .before .before .before .before .before .before .before .before .args .o) (c .before .before .before .before .before .before .before .before .args .a) (sym (ap (λ (w : Refusal). w .number) (c .before .before .before .before .before .before .simplex-refusal .ensures)) ∙ c .before .before .before .before .if1 .left) .0)))
-    (λ c. rw (← c .before .before .before .before .before .before .before .simplex-refusal .ensures, ← c .before .before .before .before .from-slice .ensures, ← c .before .before .before .all-finite .ensures, ← c .before .simplex-record .ensures, ← c .standing .ensures, eq-eqb _ _ (c .before .before .before .before .before .if1 .left), c .before .before .if2 .left)))
+    (λ c. rw (← c .before .before .before .before .before .before .before .before .simplex-refusal .ensures, ← c .before .before .before .before .before .from-slice .ensures, ← c .before .before .before .before .all-finite .ensures, simplex-asks _ _ _ _, ← c .before .before .simplex-record .ensures, ← c .before .asks .ensures, ← c .answered .ensures, eq-eqb _ _ (c .before .before .before .before .before .before .if1 .left), c .before .before .before .if2 .left)))
