@@ -1,15 +1,21 @@
 // The engine: one start for each job, and one call for each answer. The record goes in by value and
 // comes back beside the reply.
+use hessian::Model;
 use protocol::Allowances;
 use protocol::GradientOptions;
 use protocol::SimplexOptions;
 use protocol::WolfeOptions;
+use quasinewton::Descent;
+use quasinewton::Fixed;
 pub use records::Answered;
 use records::Counts;
 pub use records::Record;
 pub use records::blank;
 pub use records::valid;
 ghost use mathlib.Core.Path.{_≡_};
+ghost use Prim.Native.Nat.{_≤_};
+ghost use Rattle.hessian.specs.Step.{InRange};
+ghost use Rattle.quasinewton.specs.Step.{modelAfterOf};
 ghost use Rattle.records.specs.Record.{outcomeOf, Ranges, Open, Modelled};
 ghost use Rattle.optim.specs.Answer.{repeatsOf, steppedOf, gradedOf, takenOf, takenGradientOf, suitsOf, heardOf, answerOf};
 ghost use Rattle.optim.specs.Start.{differencesOf, simplexOf, searchOf, gradientOf, bfgsOf, lbfgsOf};
@@ -26,6 +32,18 @@ fn repeats(accepted: u64, number: u64) -> bool
         return false;
     }
     number == accepted
+}
+
+// The model at the head after a search, where its pair is taken in.
+fn model_after(fixed: Fixed, told: Descent, m: Model) -> Model
+    requires { ⌜ fixed .n ≤ 16 ⌝ }
+    requires { ⌜ InRange m ⌝ }
+    ensures { λ h. ⌜ h ≡ modelAfterOf fixed told m ⌝ }
+{
+    if quasinewton::stores(fixed, told) {
+        return quasinewton::updated(fixed, told, m);
+    }
+    m
 }
 
 // The record after the value v that was asked for. In a fit the value is read, and in a search that of a
@@ -67,9 +85,8 @@ fn stepped(r: Record, v: f64) -> Record
         let fixed = stands::gradient_fixed(r);
         let f = objective::read(v);
         let told = quasinewton::told(fixed, d, f);
-        let moved = quasinewton::settled(fixed, told, m, fevals);
-        let descent = moved.descent;
-        let model = moved.model;
+        let model = model_after(fixed, told, m);
+        let descent = quasinewton::settled(fixed, told, model, fevals);
         q.descent = descent;
         q.model = model;
         return q;
@@ -105,9 +122,8 @@ fn graded(r: Record, g: [f64; 16]) -> Record
     let m = r.model;
     let fixed = stands::gradient_fixed(r);
     let told = quasinewton::told_gradient(fixed, d, g);
-    let moved = quasinewton::settled(fixed, told, m, fevals);
-    let descent = moved.descent;
-    let model = moved.model;
+    let model = model_after(fixed, told, m);
+    let descent = quasinewton::settled(fixed, told, model, fevals);
     q.descent = descent;
     q.model = model;
     q
