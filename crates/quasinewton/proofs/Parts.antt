@@ -114,3 +114,7 @@ settled-parts fixed q m fevals = go (eqb (q .phase) atHead) refl (eqb (q .phase)
     go true e c f = from-head fixed fevals q m (q .phase) (eqb-true _ _ e)
     go false e true f = from-search fixed fevals q m (q .phase) (eqb-true _ _ f)
     go false e false f = elsewhere fixed fevals q m e f
+
+-- the same for a model and a record that were had by the two calls
+pub settled-from : (fixed : Fixed) (q : Descent) (m : Model) (fevals : ℕ) {d : Descent} {h : Model} → h ≡ modelAfterOf fixed q m → d ≡ onwardOf fixed q h fevals → settledOf fixed q m fevals ≡ moved d h
+settled-from fixed q m fevals e f = rw (f, e) (settled-parts fixed q m fevals)
