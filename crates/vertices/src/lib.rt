@@ -3,7 +3,7 @@ use protocol::SimplexOptions;
 ghost use mathlib.Core.Path.{_≡_};
 ghost use Prim.Native.Nat.{_≤_, _<_};
 ghost use Rattle.vertices.specs.Method.{adapts, beta, gamma, delta, displaced, resolution, better};
-ghost use Rattle.vertices.specs.Vertices.{sortedOf, summedOf, centroidOf, cornerOf, sizeOf, anyFiniteOf, flatOf, convergedOf};
+ghost use Rattle.vertices.specs.Vertices.{sortedOf, centroidOf, cornerOf, sizeOf, anyFiniteOf, flatOf, convergedOf};
 
 // The least edge of a new simplex.
 const ZERO_STEP: f64 = 0.00025;
@@ -42,10 +42,10 @@ pub fn sorted(v: [Vertex; 17], n: usize) -> [Vertex; 17]
     w
 }
 
-// The points of the first n vertices summed.
-fn summed(v: [Vertex; 17], n: usize) -> [f64; 16]
+// The mean of the first n vertices.
+pub fn centroid(v: [Vertex; 17], n: usize) -> [f64; 16]
     requires { ⌜ n ≤ 16 ⌝ }
-    ensures { λ r. ⌜ r ≡ summedOf v n n ⌝ }
+    ensures { λ r. ⌜ r ≡ centroidOf v n ⌝ }
 {
     let mut sum = [0.0; 16];
     let mut i: usize = 0;
@@ -56,15 +56,6 @@ fn summed(v: [Vertex; 17], n: usize) -> [f64; 16]
         sum = next;
         i += 1;
     }
-    sum
-}
-
-// The mean of the first n vertices.
-pub fn centroid(v: [Vertex; 17], n: usize) -> [f64; 16]
-    requires { ⌜ n ≤ 16 ⌝ }
-    ensures { λ r. ⌜ r ≡ centroidOf v n ⌝ }
-{
-    let sum = summed(v, n);
     vector::quotient(sum, (n as u16) as f64, n)
 }
 
