@@ -177,6 +177,10 @@ def jobs():
 
 
 def main():
+    missing = [p for p in PROGRAMS if not pathlib.Path(f"target/bin/{p}").exists()]
+    if missing:
+        print(f"target/bin/{missing[0]} is missing: rt check {' '.join(PROGRAMS)}", file=sys.stderr)
+        return 1
     given = [a for a in sys.argv[1:] if a != "--jobs"]
     guide = pathlib.Path(given[0] if given else "docs/GUIDE.md")
     if "--jobs" in sys.argv[1:]:
