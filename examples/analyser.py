@@ -50,8 +50,8 @@ def numbers(words, least, most):
 
 
 def enter(entries, key, words):
-    """Adds one line of a survey to those before it."""
-    if key == "mast":
+    """Adds one line of a survey to those before it. A mast's name begins with a letter, so that no number is taken for one."""
+    if key == "mast" and words[0][0].isalpha():
         x, y, *readings = numbers(words[1:], 3, 1000)
         entries["masts"].append(Mast(words[0], x, y, readings))
     elif key in entries:

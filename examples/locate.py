@@ -186,8 +186,8 @@ def arguments():
     return given
 
 
-def shown(drawing, given):
-    """Writes the picture, or compares it with the committed one, and tells which."""
+def put(drawing, given):
+    """Writes the picture, or compares it with the committed one. Returns what is printed about it."""
     path = HERE / f"{given.job}.svg" if given.check else pathlib.Path(given.svg or TARGET / f"{given.job}.svg")
     try:
         if not given.check:
@@ -196,7 +196,7 @@ def shown(drawing, given):
             raise Failed(f"{path}: the picture drawn now differs from it")
     except OSError as why:
         raise Wrong(f"{path}: {why.strerror}") from None
-    print(f"picture         {path}{': the same bytes' if given.check else ''}")
+    return f"{path}: the same bytes" if given.check else str(path)
 
 
 def located(given, survey):
@@ -216,9 +216,9 @@ def main():
         survey = analyser.survey_of(given.survey)
         tablet, links = located(given, survey)
         end = End(tablet.stands)
-        for name, what in described(end, survey, tablet, links):
+        where = put(drawn(given.job, end, survey, tablet.questions), given)
+        for name, what in [*described(end, survey, tablet, links), ("picture", where)]:
             print(f"{name:<15} {what}")
-        shown(drawn(given.job, end, survey, tablet.questions), given)
     except (Wrong, Failed) as why:
         print(f"locate.py: {why}", file=sys.stderr)
         return 2 if isinstance(why, Wrong) else 1
