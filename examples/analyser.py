@@ -6,7 +6,6 @@ answers on standard output (the number, the kind, words): V is the misfit at the
 point alone. A line of another form, or a SURVEY that is not one, ends it with one line on standard error and status 2.
 """
 import decimal
-import math
 import pathlib
 import re
 import struct
@@ -42,9 +41,9 @@ class Survey(NamedTuple):
 
 
 def numbers(words, least, most):
-    """So many finite numbers."""
+    """So many numbers, none above 10,000 km."""
     values = [float(word) for word in words]
-    if not (least <= len(values) <= most and all(map(math.isfinite, values))):
+    if not (least <= len(values) <= most and all(abs(value) <= 1e7 for value in values)):
         raise ValueError
     return values
 
@@ -83,8 +82,8 @@ def survey_of(path):
     missing = [key for key in ("eirp", "height", "start") if key not in entries]
     if missing:
         raise Wrong(f"{path}: no line `{missing[0]}`")
-    if entries["height"] <= 0 or len(entries["masts"]) < 3:
-        raise Wrong(f"{path}: a survey needs a height above 0 and three masts or more")
+    if entries["height"] < 1 or len({(mast.x, mast.y) for mast in entries["masts"]}) < 3:
+        raise Wrong(f"{path}: a survey needs a height of 1 m or more and masts at three places or more")
     return Survey(**entries)
 
 

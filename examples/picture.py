@@ -150,17 +150,17 @@ def legend(x, y, survey, count):
 
 
 def panels(survey, points, final):
-    """The site with all masts and the start, and the surroundings of the end with the true emitter."""
-    xs = [one.x for one in survey.masts] + [points[0][0], final[0]]
-    ys = [one.y for one in survey.masts] + [points[0][1], final[1]]
-    margin = 0.08 * max(max(xs) - min(xs), max(ys) - min(ys))
-    low, high = (min(xs) - margin, min(ys) - margin), (max(xs) + margin, max(ys) + margin)
-    site = panel_about("site", (76, 76, 500, 420), low, high)
-    reach = 0.03 * (high[0] - low[0])
+    """The site with masts, start, end and true emitter, and the surroundings of the end, with the true emitter if it is near."""
+    shown = [(one.x, one.y) for one in survey.masts] + [points[0], final]
+    off = 0.0
     if survey.true:
-        reach = max(reach, 1.5 * max(abs(survey.true[0] - final[0]), abs(survey.true[1] - final[1])))
-    near = panel_about("near", (664, 76, 272, 272), [c - reach for c in final], [c + reach for c in final])
-    return site, near
+        shown.append(survey.true[:2])
+        off = max(abs(a - b) for a, b in zip(survey.true, final))
+    low, high = [min(values) for values in zip(*shown)], [max(values) for values in zip(*shown)]
+    margin = 0.08 * max(b - a for a, b in zip(low, high))
+    site = panel_about("site", (76, 76, 500, 420), [c - margin for c in low], [c + margin for c in high])
+    reach = min(max(0.4 * margin, 1.5 * off), margin)
+    return site, panel_about("near", (664, 76, 272, 272), [c - reach for c in final], [c + reach for c in final])
 
 
 def near_on(site, near):

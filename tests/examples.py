@@ -160,11 +160,13 @@ def uses(folder):
     spoilt = [
         text.replace("-48.2", "nan"),
         text.replace("-48.2", "x"),
+        text.replace("400.0", "1e300"),
         text.replace("eirp ", "erp "),
         text.replace("eirp ", "# "),
-        text.replace("height  10", "height  0"),
+        text.replace("height  10.0", "height  0.9"),
         text.replace("mast  A", "mast"),
         text.replace("mast  A", "# ").replace("mast  B", "# "),
+        text.replace("400.0     20.0", "0.0 0.0").replace("370.0    310.0", "0.0 0.0"),
         text + "start 1 2 3\n",
     ]
     cases = [("locate", words) for words in WRONG] + [("analyser", ["none.txt"]), ("analyser", ["a", "b"])]
