@@ -88,7 +88,7 @@ def survey_of(path):
 
 
 def log10(value):
-    """By the decimal module, which rounds correctly: the C library's has other last bits on other machines."""
+    """By the decimal module, which rounds correctly: the last bits do not depend on the machine's C library."""
     return float(decimal.Decimal(value).log10(decimal.Context(prec=28)))
 
 

@@ -109,9 +109,10 @@ class Tablet:
 
 
 def start_lines(job, start):
-    """Lines 1 to 3 of the fit program. A simplex ends at 1 cm and 0.001 dB, the others at a gradient of 1e-4 per unit.
+    """Lines 1 to 3 of the fit program.
 
-    All else is the Rust's default, but for the first simplex, whose edges are a quarter of the start's coordinates.
+    A simplex begins with edges of a quarter of the start's coordinates and ends within 1 cm, 0.001 dB and 1e-6 dB^2. The others
+    end where no coordinate of the gradient is above 1e-4. All else is the Rust's default.
     """
     if job == "simplex":
         options = f"{analyser.words_of([1e-4, 1e-6, 0.25])} - - 0 1"
