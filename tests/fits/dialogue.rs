@@ -112,7 +112,7 @@ impl Dialogue {
         let due = match std::mem::replace(&mut self.stage, Stage::Stopped) {
             Stage::Job => lines::job(&line).map(|(job, n)| (self.begin(job, n), None)),
             Stage::Options(job, n) => lines::options(&line, job).map(|start| (Stage::Point(n, start), None)),
-            Stage::Point(n, start) => lines::point(&line, n).map(|x0| self.start(start, x0)),
+            Stage::Point(n, start) => lines::point(&line, n).map(|x0| self.start(start.at(x0))),
             Stage::Answers => self.heard(&line).map(|reply| (Stage::Answers, Some(reply))),
             Stage::Stopped => {
                 self.reached.insert("a line after the stop");
@@ -135,11 +135,7 @@ impl Dialogue {
         Stage::Options(job, n)
     }
 
-    fn start(&mut self, mut start: Start, x0: Vec<f64>) -> (Stage, Option<String>) {
-        match &mut start {
-            Start::Simplex(s) => s.x0 = x0,
-            Start::Gradient(g) => g.x0 = x0,
-        }
+    fn start(&mut self, start: Start) -> (Stage, Option<String>) {
         self.job = start.job();
         let (run, marks) = runs::run(&start, &mut self.teller, self.most);
         reached::note_start(&mut self.reached, &start, &run);

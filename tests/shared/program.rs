@@ -1,7 +1,7 @@
 // Gives lines to the program that is compared, and holds each line that it prints to the one that is due.
 
 #[path = "talk.rs"]
-mod talk;
+pub mod talk;
 
 use talk::{Failure, Turn};
 
