@@ -87,11 +87,11 @@ fn compare(program: &str, only: Option<&'static str>, seed: u64) -> Result<Made,
     let random = &mut Random::new(seed);
     let (kind, bytes) = inputs::bytes(random, only);
     let by_turns = bytes.len() < 50_000 && random.chance(10);
-    let (reached, printed) = talks::compare(program, &bytes, by_turns.then_some(random))
+    let (reached, replies) = talks::compare(program, &bytes, by_turns.then_some(random))
         .map_err(|difference| format!("differs: the input of seed {seed}, {kind}\n{difference}"))?;
     let reached = talks::to_reach(kind).into_iter().filter(|name| reached.contains(name)).collect();
     let lines = oracle::ends(&bytes).len();
-    Ok(Made { group: kind, reached, sums: vec![bytes.len() as u64, lines as u64, printed] })
+    Ok(Made { group: kind, reached, sums: vec![bytes.len() as u64, lines as u64, replies.len() as u64] })
 }
 
 fn write_input(seed: &str, only: Option<&'static str>) -> Option<ExitCode> {

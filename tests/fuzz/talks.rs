@@ -78,8 +78,8 @@ fn difference(replies: &[Reply], failure: &Failure) -> String {
     format!("  due:  the end of the output, and status 0\n  came: {more}")
 }
 
-// What was reached, and how many lines were printed; in parts where pseudo-random numbers are given.
-pub fn compare(program: &str, bytes: &[u8], by_turns: Option<&mut Random>) -> Result<(Reached, u64), String> {
+// What was reached, and the replies, which are just what was printed; in parts where pseudo-random numbers are given.
+pub fn compare(program: &str, bytes: &[u8], by_turns: Option<&mut Random>) -> Result<(Reached, Vec<Reply>), String> {
     let replies = oracle::replies(&mut oracle::Lines::new(bytes));
     let mut reached: Reached = replies.iter().map(name).collect();
     if replies.is_empty() {
@@ -93,5 +93,5 @@ pub fn compare(program: &str, bytes: &[u8], by_turns: Option<&mut Random>) -> Re
         None => vec![Turn { given: bytes.to_vec(), due: printed(&replies) }],
     };
     talk(program, &turns).map_err(|failure| difference(&replies, &failure))?;
-    Ok((reached, replies.len() as u64))
+    Ok((reached, replies))
 }
