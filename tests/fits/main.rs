@@ -1,9 +1,9 @@
 // Compares the fit program with the Rust's `nelder_mead`, `bfgs` and `lbfgs` on random fits, line by line and bit for bit,
 // every NaN counting as one. tests/README.md says how it is built and run.
 //
-// fits PROGRAM FITS SEED [JOB] [--log FILE]: stops at the first line that differs; fit k of them has the seed SEED + k. Without
-// a JOB (simplex, bfgs or lbfgs) they take turns.
-// fits --sum LOG..: adds up what logs hold.
+// fits [--disturbed] PROGRAM FITS SEED [JOB] [--log FILE]: stops at the first line that differs; fit k of them has the seed
+// SEED + k. Without a JOB (simplex, bfgs or lbfgs) they take turns. --disturbed disturbs the channel too (channel.rs).
+// fits [--disturbed] --sum LOG..: adds up what logs hold.
 // fits --sample FITS SEED JOB: prints fits with the lines that are due; JOB is simplex, or gradient for bfgs and lbfgs.
 
 mod channel;
@@ -59,18 +59,24 @@ use std::hint::black_box;
 use std::process::ExitCode;
 use tally::{Known, Made};
 
+// First of all arguments: the channel is disturbed too.
+const DISTURBED: &str = "--disturbed";
+
 // The job of a seed, where all take turns.
 fn turn(seed: u64) -> Job {
     JOBS[(seed % 3) as usize].0
 }
 
-fn known() -> Known {
-    let groups = JOBS.iter().map(|(job, name)| (*name, reached::all(*job))).collect();
-    Known { things: "fits", groups, sums: &["lines given", "lines printed", "lines read", "of them disturbed"] }
+fn known(disturbed: bool) -> Known {
+    let more = if disturbed { channel::KINDS } else { &[] };
+    let groups = JOBS.iter().map(|(job, name)| (*name, [&reached::all(*job)[..], more].concat())).collect();
+    let sums = &["lines given", "lines printed", "lines read", "of them disturbed"];
+    Known { things: "fits", manner: if disturbed { ", disturbed" } else { "" }, groups, sums }
 }
 
-fn compare(program: &str, job: Option<Job>, seed: u64) -> Result<Made, String> {
-    let fit = fits::fit(job.unwrap_or(turn(seed)), seed, Channel::of(seed));
+fn compare(program: &str, job: Option<Job>, disturbed: bool, seed: u64) -> Result<Made, String> {
+    let channel = if disturbed { Channel::of(seed) } else { Channel::clear() };
+    let fit = fits::fit(job.unwrap_or(turn(seed)), seed, channel);
     if program != ALONE {
         let name = format!("the fit of seed {seed}");
         program::compare(program, &fit.given).map_err(|difference| difference.text(&name, &fit.given))?;
@@ -104,13 +110,16 @@ fn main() -> ExitCode {
             return print_sample(count, seed, jobs);
         }
     }
-    if let ["--sum", ref logs @ ..] = args[..] {
-        return ranges::sum(logs, &known());
+    let (disturbed, args) = if let [DISTURBED, ref rest @ ..] = args[..] { (true, rest) } else { (false, &args[..]) };
+    let known = known(disturbed);
+    if let ["--sum", logs @ ..] = args {
+        return ranges::sum(logs, &known);
     }
-    if let Some(run) = ranges::asked(&args, &known()) {
+    if let Some(run) = ranges::asked(args, &known) {
         let job = run.only.as_deref().and_then(Job::named);
-        return run.run(&known(), &|seed| compare(&run.program, job, seed));
+        return run.run(&known, &|seed| compare(&run.program, job, disturbed, seed));
     }
-    eprintln!("fits PROGRAM FITS SEED [JOB] [--log FILE], fits --sum LOG.., or fits --sample FITS SEED JOB");
+    eprintln!("fits [{DISTURBED}] PROGRAM FITS SEED [JOB] [--log FILE], fits [{DISTURBED}] --sum LOG..,");
+    eprintln!("or fits --sample FITS SEED JOB");
     ExitCode::from(2)
 }

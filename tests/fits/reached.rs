@@ -166,7 +166,7 @@ const GRADIENT_ANSWERS: &[&str] = &[
 
 // What a sample is to hold.
 pub fn of_a_sample(job: Job) -> Vec<&'static str> {
-    let aside = [OF_THE_PIPE, channel::RATES, channel::KINDS].concat();
+    let aside = [OF_THE_PIPE, channel::RATES].concat();
     all(job).into_iter().filter(|name| !aside.contains(name)).collect()
 }
 
@@ -181,7 +181,7 @@ pub fn all(job: Job) -> Vec<&'static str> {
         Job::Simplex => vec![SIMPLEX_STARTS, simplex::MOVES],
         _ => [&[GRADIENT_STARTS, starts, GRADIENT_ANSWERS, gradient::ROUNDS, model][..], &search].concat(),
     };
-    [OF_THE_PIPE, channel::RATES, channel::KINDS, ANSWERS].into_iter().chain(own).flatten().copied().collect()
+    [OF_THE_PIPE, channel::RATES, ANSWERS].into_iter().chain(own).flatten().copied().collect()
 }
 
 fn note(reached: &mut Reached, marks: &[(bool, &'static str)]) {

@@ -76,7 +76,7 @@ use tally::{Known, Made};
 
 fn known() -> Known {
     let groups = inputs::KINDS.iter().map(|kind| (*kind, talks::to_reach(kind))).collect();
-    Known { things: "inputs", groups, sums: &["bytes given", "lines given", "lines printed"] }
+    Known { things: "inputs", manner: "", groups, sums: &["bytes given", "lines given", "lines printed"] }
 }
 
 fn kind(name: &str) -> Option<&'static str> {

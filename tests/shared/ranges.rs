@@ -89,7 +89,8 @@ impl Run {
             });
             match range {
                 Ok(range) => {
-                    self.write(&format!("\n{program}\n{}", range.text(known, self.only.as_deref().unwrap_or(ALL))));
+                    let chosen = format!("{}{}", self.only.as_deref().unwrap_or(ALL), known.manner);
+                    self.write(&format!("\n{program}\n{}", range.text(known, &chosen)));
                     total.merge(&range);
                 }
                 Err(difference) => {
@@ -139,6 +140,9 @@ fn added(files: &[&str], known: &Known) -> Result<Tally, String> {
     for (program, chosen, tally) in &all {
         if program != first {
             return Err("the ranges are of different programs".into());
+        }
+        if !chosen.ends_with(known.manner) {
+            return Err(format!("seed {} was not run in this manner", tally.first));
         }
         match seeds.last_mut() {
             Some((which, _, last)) if which == chosen && *last >= tally.first => {

@@ -8,6 +8,8 @@ use std::fmt::Write;
 pub struct Known {
     // What a seed gives: fits, or inputs.
     pub things: &'static str,
+    // In what manner, in words that a log has behind the group.
+    pub manner: &'static str,
     pub groups: Vec<(&'static str, Vec<&'static str>)>,
     pub sums: &'static [&'static str],
 }
