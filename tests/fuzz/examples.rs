@@ -105,6 +105,7 @@ fn long() -> Vec<Example> {
     const KIND: &str = "long lines";
     let words = |word: &str, count: usize| vec![word; count].join(" ");
     let many = LONG / 17;
+    let wide = format!("\n1 V {}\n1 V", words(TWO, many));
     let (n, point) = (format!("simplex {many}\n"), format!("1\n{}\n1 V", words(ONE, many)));
     let far = String::from_utf8_lossy(&sample("simplex 1\n", &n)).replacen(&format!("1\n{ONE}\n1 V"), &point, 1);
     vec![
@@ -114,7 +115,7 @@ fn long() -> Vec<Example> {
         (KIND, "line 2 with 10^7 spaces behind it", sample(OPTIONS, &format!("{OPTIONS}{}", " ".repeat(LONG)))),
         (KIND, "line 3 of 10^7 digits", sample(&format!("1\n{ONE}\n"), &format!("1\n{}\n", "0".repeat(LONG)))),
         (KIND, "line 3 of 588,235 words, which are 10^7 bytes, and n 588,235", far.into_bytes()),
-        (KIND, "the first answer with 588,235 words, then as it should be", sample("\n1 V", &format!("\n1 V {}\n1 V", words(TWO, many)))),
+        (KIND, "the first answer with 588,235 words, then as it should be", sample("\n1 V", &wide)),
         (KIND, "10^7 zeros before the first answer's number", sample("\n1 V", &format!("\n{}1 V", "0".repeat(LONG)))),
     ]
 }

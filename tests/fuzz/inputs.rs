@@ -193,7 +193,8 @@ fn lengthen(random: &mut Random, lines: &mut [String], least: f64, most: f64) {
 }
 
 fn tokens(random: &mut Random) -> Vec<u8> {
-    let list = ["simplex", "bfgs", "lbfgs", "1", "2", "16", "-", "V", "G", "3FF0000000000000", "0000000000000000", " ", "\n", "0", "30"];
+    const FIELDS: &str = "simplex bfgs lbfgs 0 1 2 16 30 - V G 3FF0000000000000 0000000000000000";
+    let list: Vec<&str> = FIELDS.split(' ').chain([" ", "\n"]).collect();
     let mut bytes: Vec<u8> = if random.chance(50) { b"simplex 1\n".to_vec() } else { Vec::new() };
     for _ in 0..random.below(60) {
         bytes.extend_from_slice(random.pick(&list).as_bytes());

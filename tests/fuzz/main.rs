@@ -119,7 +119,8 @@ fn main() -> ExitCode {
     assert_eq!(c, 0x3ED9_65FE_A53D_6E3D, "01: where `cbrt` gives other bits, the Rust is to be run with c");
     let args: Vec<String> = std::env::args().skip(1).collect();
     asked(&args.iter().map(String::as_str).collect::<Vec<_>>()).unwrap_or_else(|| {
-        eprintln!("fuzz PROGRAM INPUTS SEED [KIND] [--log FILE], fuzz --sum LOG.., fuzz --input SEED [KIND], or fuzz --table PROGRAM");
+        eprintln!("fuzz PROGRAM INPUTS SEED [KIND] [--log FILE], fuzz --sum LOG..,");
+        eprintln!("fuzz --input SEED [KIND], or fuzz --table PROGRAM");
         ExitCode::from(2)
     })
 }

@@ -47,12 +47,12 @@ fn identity(program: &str) -> String {
 }
 
 // Names the seed in hand where the driver itself panics.
-struct Seed(u64);
+struct Seed<'a>(u64, &'a Run);
 
-impl Drop for Seed {
+impl Drop for Seed<'_> {
     fn drop(&mut self) {
         if std::thread::panicking() {
-            eprintln!("the driver panicked at seed {}", self.0);
+            self.1.stop(&format!("differs: the driver panicked at seed {}", self.0));
         }
     }
 }
@@ -66,11 +66,16 @@ impl Run {
         }
     }
 
+    fn stop(&self, difference: &str) {
+        println!("{difference}");
+        self.write(&format!("\n{difference}\n"));
+    }
+
     fn range(&self, known: &Known, done: u64, one: &dyn Fn(u64) -> Result<Made, String>) -> Result<Tally, String> {
         let begun = Instant::now();
         let mut tally = Tally::new(self.seed.wrapping_add(done), known);
         for i in done..self.count.min(done + RANGE) {
-            let seed = Seed(self.seed.wrapping_add(i));
+            let seed = Seed(self.seed.wrapping_add(i), self);
             tally.add(&one(seed.0)?);
         }
         tally.seconds = begun.elapsed().as_secs_f64();
@@ -94,8 +99,7 @@ impl Run {
                     total.merge(&range);
                 }
                 Err(difference) => {
-                    self.write(&format!("\n{difference}\n"));
-                    println!("{difference}");
+                    self.stop(&difference);
                     return ExitCode::FAILURE;
                 }
             }
