@@ -6,10 +6,10 @@ use crate::fields::{self, Answer, V};
 use crate::lines;
 use crate::program::Entry;
 use crate::reached::{self, Reached};
+use crate::replies::{self, Verdict};
 use crate::rust::{Job, Outcome, Run, Start};
 use crate::runs::{self, Marks};
 use crate::tellers::Teller;
-use tsecon_optim::OptimizeResult;
 
 enum Stage {
     Job,
@@ -36,27 +36,19 @@ pub struct Dialogue {
     stage: Stage,
     fit: Option<Fit>,
     accepted: usize,
+    // Lines that the program reads, and how many of them are bad or answers that it does not accept.
+    pub lines: u64,
+    pub disturbed: u64,
     teller: Teller,
     most: usize,
-}
-
-fn ended(result: &OptimizeResult) -> String {
-    let converged = if result.converged { "yes" } else { "no" };
-    let counts = format!("{} {} {}", result.iterations, result.fevals, result.gevals);
-    let values: Vec<f64> = [result.f].iter().chain(&result.x).copied().collect();
-    format!("end {:?} {converged} {counts}{}", result.termination, fields::printed(&values))
 }
 
 // The open question after `accepted` answers, or the outcome.
 fn standing(run: &Run, accepted: usize) -> String {
     if let Some(call) = run.calls.get(accepted) {
-        return format!("ask {} {}{}", accepted + 1, call.kind, fields::printed(&call.point));
+        return replies::asked(accepted as u64 + 1, call.kind, &call.point);
     }
-    match &run.outcome {
-        Outcome::Result(result) => ended(result),
-        Outcome::Refusal(number, detail) => format!("no {number} {detail}"),
-        Outcome::Left => unreachable!("the last question of a fit that was left is not answered"),
-    }
+    replies::outcome(&run.outcome)
 }
 
 fn bits(values: &[f64]) -> Vec<u64> {
@@ -66,7 +58,8 @@ fn bits(values: &[f64]) -> Vec<u64> {
 impl Dialogue {
     pub fn new(job: Job, teller: Teller, most: usize) -> Self {
         let (entries, reached) = (Vec::new(), Reached::default());
-        Dialogue { entries, reached, job, read: job, stage: Stage::Job, fit: None, accepted: 0, teller, most }
+        let (stage, fit) = (Stage::Job, None);
+        Dialogue { entries, reached, job, read: job, stage, fit, accepted: 0, lines: 0, disturbed: 0, teller, most }
     }
 
     pub fn stopped(&self) -> bool {
@@ -87,30 +80,39 @@ impl Dialogue {
         self.run().is_some_and(|run| self.accepted == run.calls.len())
     }
 
-    // What the open question was told in the Rust's run, if it was told anything.
-    pub fn told(&self) -> Option<(char, Vec<u64>)> {
-        let call = self.run()?.calls.get(self.accepted)?;
+    // What the question of a number was told in the Rust's run, if it was told anything.
+    pub fn told_at(&self, number: u64) -> Option<(char, Vec<u64>)> {
+        let call = self.run()?.calls.get(number.checked_sub(1)? as usize)?;
         if call.told.is_empty() { None } else { Some((call.kind, bits(&call.told))) }
+    }
+
+    // What the open question was told.
+    pub fn told(&self) -> Option<(char, Vec<u64>)> {
+        self.told_at(self.accepted() + 1)
     }
 
     // What was last accepted.
     pub fn last_told(&self) -> Option<(char, Vec<u64>)> {
-        self.run()?.calls[..self.accepted].last().map(|call| (call.kind, bits(&call.told)))
+        self.told_at(self.accepted())
     }
 
     // Whether a line would be accepted: then it must be the answer that the Rust's run was given.
     pub fn accepts(&self, line: &str) -> bool {
-        let Some(call) = self.run().and_then(|run| run.calls.get(self.accepted)) else { return false };
-        let count = if call.kind == V { 1 } else { call.point.len() };
-        let right = |a: Answer| a.number == self.accepted() + 1 && a.kind == call.kind && a.words.len() == count;
-        fields::answer(line).is_some_and(right)
+        let Some(open) = self.run().map(|run| self.open(run)) else { return false };
+        fields::answer(line).is_some_and(|answer| replies::verdict(&answer, self.accepted(), open) == Verdict::Accepted)
+    }
+
+    fn open(&self, run: &Run) -> Option<(char, usize)> {
+        run.calls.get(self.accepted).map(|call| (call.kind, call.point.len()))
     }
 
     pub fn give(&mut self, line: String) {
+        let (answering, accepted) = (matches!(self.stage, Stage::Answers), self.accepted);
+        self.lines += !self.stopped() as u64;
         let due = match std::mem::replace(&mut self.stage, Stage::Stopped) {
             Stage::Job => lines::job(&line).map(|(job, n)| (self.begin(job, n), None)),
             Stage::Options(job, n) => lines::options(&line, job).map(|start| (Stage::Point(n, start), None)),
-            Stage::Point(n, start) => lines::point(&line, n).map(|x0| self.start(start, x0)),
+            Stage::Point(n, start) => lines::point(&line, n).map(|x0| self.start(start.at(x0))),
             Stage::Answers => self.heard(&line).map(|reply| (Stage::Answers, Some(reply))),
             Stage::Stopped => {
                 self.reached.insert("a line after the stop");
@@ -122,6 +124,8 @@ impl Dialogue {
             reached::note_bad(&mut self.reached, self.read, number, &line);
             (Stage::Stopped, Some(format!("bad {number}")))
         });
+        let bad = due.as_ref().is_some_and(|due| due.starts_with("bad"));
+        self.disturbed += (bad || answering && self.accepted == accepted) as u64;
         self.stage = stage;
         self.entries.push(Entry { line, due });
     }
@@ -131,11 +135,7 @@ impl Dialogue {
         Stage::Options(job, n)
     }
 
-    fn start(&mut self, mut start: Start, x0: Vec<f64>) -> (Stage, Option<String>) {
-        match &mut start {
-            Start::Simplex(s) => s.x0 = x0,
-            Start::Gradient(g) => g.x0 = x0,
-        }
+    fn start(&mut self, start: Start) -> (Stage, Option<String>) {
         self.job = start.job();
         let (run, marks) = runs::run(&start, &mut self.teller, self.most);
         reached::note_start(&mut self.reached, &start, &run);
@@ -169,37 +169,37 @@ impl Dialogue {
         }
     }
 
-    // 01: an answer meets the repeat rule, then 15 to 17; before the first acceptance no number is a repeat.
     fn answer(&mut self, run: &Run, answer: &Answer) -> String {
-        let last = self.accepted();
-        if last > 0 && answer.number == last {
+        let verdict = replies::verdict(answer, self.accepted(), self.open(run));
+        if let Some(number) = replies::refusal(verdict) {
+            self.note_refusal(run, answer, verdict);
+            return format!("no {number} 0");
+        }
+        if verdict == Verdict::Repeat {
             self.note_repeat(run, answer);
-            return standing(run, self.accepted);
+        } else {
+            assert_eq!(answer.words, bits(&run.calls[self.accepted].told), "the run was told something else");
+            self.accepted += 1;
+            self.reached.insert("accepted");
         }
-        let Some(call) = run.calls.get(self.accepted) else {
-            let ended = matches!(run.outcome, Outcome::Result(_));
-            self.reached.insert(if ended { "no 15: after an end" } else { "no 15: after a refusal" });
-            return self.refused("no 15", 15);
-        };
-        if answer.number != last + 1 {
-            return self.refused(if last == 0 { "no 16: before the first acceptance" } else { "no 16" }, 16);
-        }
-        if answer.kind != call.kind {
-            return self.refused(if call.kind == V { "no 17: G for V" } else { "no 17: V for G" }, 17);
-        }
-        let count = if call.kind == V { 1 } else { call.point.len() };
-        if answer.words.len() != count {
-            return self.refused(reached::wrong_count(call.kind, answer.words.len(), count), 17);
-        }
-        assert_eq!(answer.words, bits(&call.told), "the run was told something else");
-        self.accepted += 1;
-        self.reached.insert("accepted");
         standing(run, self.accepted)
     }
 
-    fn refused(&mut self, name: &'static str, number: u64) -> String {
-        self.reached.insert(name);
-        format!("no {number} 0")
+    fn note_refusal(&mut self, run: &Run, answer: &Answer, verdict: Verdict) {
+        let ended = matches!(run.outcome, Outcome::Result(_));
+        if verdict == Verdict::Ended {
+            self.reached.insert("no 15");
+        }
+        self.reached.insert(match verdict {
+            Verdict::Ended if ended => "no 15: after an end",
+            Verdict::Ended => "no 15: after a refusal",
+            Verdict::Number if self.accepted == 0 => "no 16: before the first acceptance",
+            Verdict::Number => "no 16",
+            Verdict::Kind if answer.kind == V => "no 17: V for G",
+            Verdict::Kind => "no 17: G for V",
+            Verdict::Count(count) => reached::wrong_count(answer.kind, answer.words.len(), count),
+            Verdict::Accepted | Verdict::Repeat => unreachable!("no refusal"),
+        });
     }
 
     fn note_repeat(&mut self, run: &Run, answer: &Answer) {

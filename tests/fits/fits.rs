@@ -1,5 +1,6 @@
 // A random fit: its start, the right answers, and lines out of turn between and after them.
 
+use crate::channel::{self, Channel};
 use crate::dialogue::Dialogue;
 use crate::fields::{self, G, V};
 use crate::gradient_starts;
@@ -18,6 +19,9 @@ pub struct Fit {
     pub job: Job,
     pub given: Given,
     pub reached: Reached,
+    // Of the lines given: those that the program reads, and of them those that disturb.
+    pub lines: u64,
+    pub disturbed: u64,
 }
 
 struct Manner {
@@ -103,7 +107,7 @@ fn give_spoilt(random: &mut Random, manner: &Manner, d: &mut Dialogue) {
     }
 }
 
-fn answers(random: &mut Random, manner: &Manner, d: &mut Dialogue) {
+fn answers(random: &mut Random, manner: &Manner, channel: &mut Channel, d: &mut Dialogue) {
     loop {
         while !d.stopped() && random.chance(manner.out_of_turn) {
             let line = out_of_turn(random, manner, d);
@@ -112,6 +116,7 @@ fn answers(random: &mut Random, manner: &Manner, d: &mut Dialogue) {
         if !d.stopped() && random.chance(manner.spoilt) {
             give_spoilt(random, manner, d);
         }
+        channel.disturb(d);
         match d.told() {
             Some(told) => {
                 let line = right_answer(random, manner, d, &told);
@@ -174,7 +179,7 @@ fn first_lines(random: &mut Random, manner: &Manner, d: &mut Dialogue, start: &S
     first
 }
 
-pub fn fit(job: Job, seed: u64) -> Fit {
+pub fn fit(job: Job, seed: u64, mut channel: Channel) -> Fit {
     let random = &mut Random::new(seed);
     let manner = Manner {
         out_of_turn: random.pick(&[0, 0, 3, 10, 60]),
@@ -187,7 +192,7 @@ pub fn fit(job: Job, seed: u64) -> Fit {
     let whole = first.len() == 3;
     first.into_iter().for_each(|line| d.give(line));
     if whole {
-        answers(random, &manner, &mut d);
+        answers(random, &manner, &mut channel, &mut d);
         afterwards(random, &manner, &mut d);
     }
     d.finish();
@@ -198,5 +203,7 @@ pub fn fit(job: Job, seed: u64) -> Fit {
     if !ended {
         d.reached.insert("no line feed at the end");
     }
-    Fit { seed, job: d.job, given: Given { entries: d.entries, line_by_line, ended }, reached: d.reached }
+    channel::note_rate(&mut d.reached, d.lines, d.disturbed);
+    let given = Given { entries: d.entries, line_by_line, ended };
+    Fit { seed, job: d.job, given, reached: d.reached, lines: d.lines, disturbed: d.disturbed }
 }

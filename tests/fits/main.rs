@@ -1,10 +1,12 @@
 // Compares the fit program with the Rust's `nelder_mead`, `bfgs` and `lbfgs` on random fits, line by line and bit for bit,
 // every NaN counting as one. tests/README.md says how it is built and run.
 //
-// fits PROGRAM FITS SEED [JOB]: stops at the first line that differs; fit k of them has the seed SEED + k. Without a JOB
-// (simplex, bfgs or lbfgs) they take turns.
+// fits [--disturbed] PROGRAM FITS SEED [JOB] [--log FILE]: stops at the first line that differs; fit k of them has the seed
+// SEED + k. Without a JOB (simplex, bfgs or lbfgs) they take turns. --disturbed disturbs the channel too (channel.rs).
+// fits [--disturbed] --sum LOG..: adds up what logs hold.
 // fits --sample FITS SEED JOB: prints fits with the lines that are due; JOB is simplex, or gradient for bfgs and lbfgs.
 
+mod channel;
 #[path = "../shared/choice.rs"]
 mod choice;
 #[path = "../shared/counts.rs"]
@@ -26,10 +28,14 @@ mod objectives;
 #[path = "../shared/points.rs"]
 mod points;
 #[path = "../shared/program.rs"]
+#[allow(dead_code)]
 mod program;
 #[path = "../shared/random.rs"]
 mod random;
+#[path = "../shared/ranges.rs"]
+mod ranges;
 mod reached;
+mod replies;
 mod runs;
 mod rust;
 mod sample;
@@ -42,48 +48,42 @@ mod simplex;
 mod simplex_starts;
 #[path = "../shared/spoil.rs"]
 mod spoil;
+#[path = "../shared/tally.rs"]
+mod tally;
 mod tellers;
 
-use counts::Counts;
+use channel::Channel;
+use ranges::ALONE;
 use rust::{Job, JOBS};
-use std::collections::BTreeMap;
 use std::hint::black_box;
 use std::process::ExitCode;
+use tally::{Known, Made};
 
-// In a program's place: the Rust and the shadow are run, and nothing is compared with a program.
-const ALONE: &str = "--alone";
+// First of all arguments: the channel is disturbed too.
+const DISTURBED: &str = "--disturbed";
 
 // The job of a seed, where all take turns.
 fn turn(seed: u64) -> Job {
     JOBS[(seed % 3) as usize].0
 }
 
-fn compare(program: &str, count: u64, seed: u64, job: Option<Job>) -> ExitCode {
-    let mut counts: BTreeMap<Job, (u64, Counts)> = BTreeMap::new();
-    let (mut given, mut printed) = (0, 0);
-    for seed in (0..count).map(|i| seed.wrapping_add(i)) {
-        let fit = fits::fit(job.unwrap_or(turn(seed)), seed);
-        if program != ALONE {
-            if let Err(difference) = program::compare(program, &fit.given) {
-                difference.report(&format!("the fit of seed {seed}"), &fit.given);
-                return ExitCode::FAILURE;
-            }
-        }
-        given += fit.given.entries.len();
-        printed += fit.given.entries.iter().filter(|entry| entry.due.is_some()).count();
-        let (fits, reached) = counts.entry(fit.job).or_default();
-        *fits += 1;
-        reached.add(&fit.reached);
+fn known(disturbed: bool) -> Known {
+    let more = if disturbed { channel::KINDS } else { &[] };
+    let groups = JOBS.iter().map(|(job, name)| (*name, [&reached::all(*job)[..], more].concat())).collect();
+    let sums = &["lines given", "lines printed", "lines read", "of them disturbed"];
+    Known { things: "fits", manner: if disturbed { ", disturbed" } else { "" }, groups, sums }
+}
+
+fn compare(program: &str, job: Option<Job>, disturbed: bool, seed: u64) -> Result<Made, String> {
+    let channel = if disturbed { Channel::of(seed) } else { Channel::clear() };
+    let fit = fits::fit(job.unwrap_or(turn(seed)), seed, channel);
+    if program != ALONE {
+        let name = format!("the fit of seed {seed}");
+        program::compare(program, &fit.given).map_err(|difference| difference.text(&name, &fit.given))?;
     }
-    let mut whole = true;
-    for (job, _) in JOBS.into_iter().filter(|(known, _)| job.is_none_or(|job| job == *known)) {
-        let (fits, reached) = counts.remove(&job).unwrap_or_default();
-        println!("{}: {fits} fits", job.name());
-        whole &= reached.report(&reached::all(job));
-    }
-    let equal = if program == ALONE { "run, NOT COMPARED" } else { "equal" };
-    println!("{count} fits {equal}: {given} lines given, {printed} lines printed");
-    if whole { ExitCode::SUCCESS } else { ExitCode::FAILURE }
+    let printed = fit.given.entries.iter().filter(|entry| entry.due.is_some()).count();
+    let sums = vec![fit.given.entries.len() as u64, printed as u64, fit.lines, fit.disturbed];
+    Ok(Made { group: fit.job.name(), reached: fit.reached, sums })
 }
 
 fn print_sample(count: usize, seed: u64, jobs: &[Job]) -> ExitCode {
@@ -104,16 +104,22 @@ fn main() -> ExitCode {
     assert_eq!(c, 0x3ED9_65FE_A53D_6E3D, "01: where `cbrt` gives other bits, the Rust is to be run with c");
     let args: Vec<String> = std::env::args().skip(1).collect();
     let args: Vec<&str> = args.iter().map(String::as_str).collect();
-    let numbers: Vec<u64> = args.iter().skip(1).take(2).filter_map(|arg| arg.parse().ok()).collect();
-    match (&args[..], &numbers[..]) {
-        (["--sample", _, _, "simplex"], &[count, seed]) => return print_sample(count as usize, seed, &[Job::Simplex]),
-        (["--sample", _, _, "gradient"], &[count, seed]) => return print_sample(count as usize, seed, &[Job::Bfgs, Job::Lbfgs]),
-        ([program, _, _], &[count, seed]) => return compare(program, count, seed, None),
-        ([program, _, _, job], &[count, seed]) if Job::named(job).is_some() => {
-            return compare(program, count, seed, Job::named(job));
+    if let ["--sample", count, seed, job] = args[..] {
+        let jobs: &[Job] = if job == "simplex" { &[Job::Simplex] } else { &[Job::Bfgs, Job::Lbfgs] };
+        if let (Ok(count), Ok(seed), "simplex" | "gradient") = (count.parse(), seed.parse(), job) {
+            return print_sample(count, seed, jobs);
         }
-        _ => {}
     }
-    eprintln!("fits PROGRAM FITS SEED [JOB], or fits --sample FITS SEED JOB");
+    let (disturbed, args) = if let [DISTURBED, ref rest @ ..] = args[..] { (true, rest) } else { (false, &args[..]) };
+    let known = known(disturbed);
+    if let ["--sum", logs @ ..] = args {
+        return ranges::sum(logs, &known);
+    }
+    if let Some(run) = ranges::asked(args, &known) {
+        let job = run.only.as_deref().and_then(Job::named);
+        return run.run(&known, &|seed| compare(&run.program, job, disturbed, seed));
+    }
+    eprintln!("fits [{DISTURBED}] PROGRAM FITS SEED [JOB] [--log FILE], fits [{DISTURBED}] --sum LOG..,");
+    eprintln!("or fits --sample FITS SEED JOB");
     ExitCode::from(2)
 }

@@ -1,5 +1,6 @@
 // What the fits are to reach. Every name is held against these lists, so that one that is misspelt or never met is found.
 
+use crate::channel;
 use crate::cubic;
 use crate::fields::{self, V};
 use crate::gradient;
@@ -12,7 +13,7 @@ use crate::simplex;
 pub use crate::counts::Reached;
 
 // Things of the pipe, which a sample of lines does not hold.
-pub const OF_THE_PIPE: &[&str] = &["talked to line by line", "all lines at once", "no line feed at the end"];
+const OF_THE_PIPE: &[&str] = &["talked to line by line", "all lines at once", "no line feed at the end"];
 
 const SIMPLEX_STARTS: &[&str] = &[
     "no 2: n 17",
@@ -163,6 +164,12 @@ const GRADIENT_ANSWERS: &[&str] = &[
     "bad 2: the options of another job",
 ];
 
+// What a sample is to hold.
+pub fn of_a_sample(job: Job) -> Vec<&'static str> {
+    let aside = [OF_THE_PIPE, channel::RATES].concat();
+    all(job).into_iter().filter(|name| !aside.contains(name)).collect()
+}
+
 pub fn all(job: Job) -> Vec<&'static str> {
     let (starts, model) = match job {
         Job::Simplex => (&[][..], &[][..]),
@@ -174,7 +181,7 @@ pub fn all(job: Job) -> Vec<&'static str> {
         Job::Simplex => vec![SIMPLEX_STARTS, simplex::MOVES],
         _ => [&[GRADIENT_STARTS, starts, GRADIENT_ANSWERS, gradient::ROUNDS, model][..], &search].concat(),
     };
-    [OF_THE_PIPE, ANSWERS].into_iter().chain(own).flatten().copied().collect()
+    [OF_THE_PIPE, channel::RATES, ANSWERS].into_iter().chain(own).flatten().copied().collect()
 }
 
 fn note(reached: &mut Reached, marks: &[(bool, &'static str)]) {

@@ -102,6 +102,14 @@ impl Start {
         }
     }
 
+    pub fn at(mut self, x0: Vec<f64>) -> Self {
+        match &mut self {
+            Start::Simplex(s) => s.x0 = x0,
+            Start::Gradient(g) => g.x0 = x0,
+        }
+        self
+    }
+
     pub fn allowances(&self) -> [Option<u64>; 2] {
         match self {
             Start::Simplex(s) => [s.max_iter, s.max_fevals],
@@ -167,11 +175,15 @@ struct Recorded<'a> {
 // What the objective unwinds with where the fit is left.
 struct Leave;
 
+pub fn leave() -> ! {
+    resume_unwind(Box::new(Leave))
+}
+
 impl Recorded<'_> {
     fn called(&mut self, kind: char, x: &[f64]) -> Vec<f64> {
         self.calls.push(Call { kind, point: x.to_vec(), told: Vec::new() });
         if self.calls.len() > self.most {
-            resume_unwind(Box::new(Leave));
+            leave();
         }
         let told = self.told.told(kind, x);
         self.calls.last_mut().expect("a call was pushed").told = told.clone();

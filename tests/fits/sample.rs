@@ -1,9 +1,10 @@
 // A sample of fits that holds everything that is counted, for a program that replays it: each line given behind `< `, each
 // line due behind `> `, where it is due, and an empty line after each fit.
 
+use crate::channel::Channel;
 use crate::choice::{self, Candidate};
 use crate::fits::{fit, Fit};
-use crate::reached::{self, Reached, OF_THE_PIPE};
+use crate::reached::{self, Reached};
 use crate::rust::Job;
 
 const POOL: u64 = 20_000;
@@ -24,7 +25,7 @@ fn text(fit: &Fit) -> String {
 
 // The jobs take turns, as their seeds do.
 fn drawn(seed: u64, jobs: &[Job]) -> Fit {
-    fit(jobs[(seed % jobs.len() as u64) as usize], seed)
+    fit(jobs[(seed % jobs.len() as u64) as usize], seed, Channel::clear())
 }
 
 fn choose(count: usize, seed: u64, jobs: &[Job]) -> Result<Vec<u64>, Reached> {
@@ -33,7 +34,7 @@ fn choose(count: usize, seed: u64, jobs: &[Job]) -> Result<Vec<u64>, Reached> {
         .filter(|fit| !fit.given.entries.is_empty() && jobs.contains(&fit.job))
         .map(|fit| Candidate { seed: fit.seed, bytes: text(&fit).len(), reached: fit.reached })
         .collect();
-    let all = jobs.iter().flat_map(|job| reached::all(*job)).filter(|name| !OF_THE_PIPE.contains(name)).collect();
+    let all = jobs.iter().flat_map(|job| reached::of_a_sample(*job)).collect();
     choice::choose(pool, &all, count, SHORT)
 }
 

@@ -5,7 +5,7 @@ use std::collections::{BTreeMap, BTreeSet};
 pub type Reached = BTreeSet<&'static str>;
 
 #[derive(Default)]
-pub struct Counts(BTreeMap<&'static str, u64>);
+pub struct Counts(pub BTreeMap<&'static str, u64>);
 
 impl Counts {
     pub fn add(&mut self, reached: &Reached) {

@@ -1,13 +1,9 @@
-// Talks to the program that is compared, and holds each line that it prints to the one that is due.
+// Gives lines to the program that is compared, and holds each line that it prints to the one that is due.
 
-use std::io::{BufRead, BufReader, ErrorKind, Write};
-use std::process::{Child, ChildStdin, ChildStdout, Command, Stdio};
-use std::sync::mpsc::{channel, Receiver, RecvTimeoutError};
-use std::thread;
-use std::time::Duration;
+#[path = "talk.rs"]
+pub mod talk;
 
-// How long a reply may take: past this the program is held to be waiting for more input.
-const PATIENCE: Duration = Duration::from_secs(20);
+use talk::{Failure, Turn};
 
 pub struct Entry {
     pub line: String,
@@ -33,121 +29,63 @@ pub struct Difference {
 
 impl Difference {
     pub fn report(&self, name: &str, given: &Given) {
+        println!("{}", self.text(name, given));
+    }
+
+    pub fn text(&self, name: &str, given: &Given) -> String {
         let manner = if given.line_by_line { "line by line" } else { "all lines at once" };
-        println!("differs: {name}, given {manner}, at line {}", self.number);
-        println!("  line: {}", self.line.escape_debug());
-        println!("  due:  {}", self.due);
-        println!("  came: {}", self.came.trim_end_matches('\n').escape_debug());
+        let came = self.came.trim_end_matches('\n').escape_debug();
+        let line = self.line.escape_debug();
+        format!("differs: {name}, given {manner}, at line {}\n  line: {line}\n  due:  {}\n  came: {came}", self.number, self.due)
     }
 }
 
-// The lines that the program prints, each with its line feed. They are read beside the talk, so that neither side can be
-// kept from writing.
-fn printed(from: ChildStdout) -> Receiver<Vec<u8>> {
-    let (to, lines) = channel();
-    thread::spawn(move || {
-        let mut from = BufReader::new(from);
-        loop {
-            let mut line = Vec::new();
-            match from.read_until(b'\n', &mut line) {
-                Ok(count) if count > 0 && to.send(line).is_ok() => {}
-                _ => return,
+fn due(entry: &Entry) -> Vec<u8> {
+    entry.due.as_ref().map_or(Vec::new(), |due| format!("{due}\n").into_bytes())
+}
+
+fn at_once(given: &Given) -> Vec<Turn> {
+    let mut input: String = given.entries.iter().flat_map(|entry| [&entry.line, "\n"]).collect();
+    if !given.ended {
+        input.pop();
+    }
+    vec![Turn { given: input.into_bytes(), due: given.entries.iter().flat_map(due).collect() }]
+}
+
+// Each line in two parts, since nothing makes a line arrive whole.
+fn line_by_line(given: &Given) -> Vec<Turn> {
+    let mut turns = Vec::new();
+    for (i, entry) in given.entries.iter().enumerate() {
+        let (head, tail) = entry.line.as_bytes().split_at(entry.line.len() / 2);
+        let ended = given.ended || i + 1 < given.entries.len();
+        turns.push(Turn { given: head.to_vec(), due: Vec::new() });
+        turns.push(Turn { given: [tail, if ended { b"\n" } else { b"" }].concat(), due: due(entry) });
+    }
+    // With its line feed the last line brings its reply before the input ends.
+    if given.ended || turns.is_empty() {
+        turns.push(Turn { given: Vec::new(), due: Vec::new() });
+    }
+    turns
+}
+
+// The first line whose reply is not the one that is due.
+fn difference(given: &Given, failure: &Failure) -> Difference {
+    let mut came = failure.came.split_inclusive(|byte| *byte == b'\n');
+    let wrong = || failure.wrong.clone().unwrap_or("nothing, the output has ended".into());
+    for (i, entry) in given.entries.iter().enumerate() {
+        if let Some(due) = &entry.due {
+            let line = came.next().map_or_else(wrong, |line| String::from_utf8_lossy(line).into_owned());
+            if line != format!("{due}\n") {
+                return Difference { number: i + 1, line: entry.line.clone(), due: due.clone(), came: line };
             }
         }
-    });
-    lines
-}
-
-// A program that has stopped takes no more lines, so that writing to it may fail.
-fn write(to: &mut Option<ChildStdin>, bytes: &[u8]) {
-    if let Some(stdin) = to {
-        match stdin.write_all(bytes) {
-            Err(error) if error.kind() != ErrorKind::BrokenPipe => panic!("writing to the program: {error}"),
-            _ => {}
-        }
     }
-}
-
-fn next(lines: &Receiver<Vec<u8>>) -> String {
-    match lines.recv_timeout(PATIENCE) {
-        Ok(line) => String::from_utf8_lossy(&line).into_owned(),
-        Err(RecvTimeoutError::Timeout) => format!("nothing in {} s", PATIENCE.as_secs()),
-        Err(RecvTimeoutError::Disconnected) => "nothing, the output has ended".into(),
-    }
-}
-
-struct Talk {
-    child: Child,
-    stdin: Option<ChildStdin>,
-    lines: Receiver<Vec<u8>>,
-}
-
-impl Talk {
-    fn begin(program: &str) -> Self {
-        let child = Command::new(program).stdin(Stdio::piped()).stdout(Stdio::piped()).spawn();
-        let mut child = child.unwrap_or_else(|error| panic!("{program}: {error}"));
-        let stdin = child.stdin.take();
-        let lines = printed(child.stdout.take().expect("its output is piped"));
-        Talk { child, stdin, lines }
-    }
-
-    fn replies(&mut self, given: &Given) -> Result<(), Difference> {
-        if !given.line_by_line {
-            let mut input: String = given.entries.iter().flat_map(|entry| [&entry.line, "\n"]).collect();
-            if !given.ended {
-                input.pop();
-            }
-            write(&mut self.stdin, input.as_bytes());
-            self.stdin = None;
-        }
-        for (i, entry) in given.entries.iter().enumerate() {
-            if given.line_by_line {
-                self.give(&entry.line, given.ended || i + 1 < given.entries.len());
-            }
-            if let Some(due) = &entry.due {
-                let came = next(&self.lines);
-                if came != format!("{due}\n") {
-                    return Err(Difference { number: i + 1, line: entry.line.clone(), due: due.clone(), came });
-                }
-            }
-        }
-        self.stdin = None;
-        Ok(())
-    }
-
-    // One line, in two parts, since nothing makes a line arrive whole.
-    fn give(&mut self, line: &str, ended: bool) {
-        let (head, tail) = line.as_bytes().split_at(line.len() / 2);
-        write(&mut self.stdin, head);
-        write(&mut self.stdin, &[tail, if ended { b"\n" } else { b"" }].concat());
-        if !ended {
-            self.stdin = None;
-        }
-    }
-
-    // Nothing is printed after the last reply, and the status is 0.
-    fn end(&mut self) -> Result<(), (String, String)> {
-        match self.lines.recv_timeout(PATIENCE) {
-            Err(RecvTimeoutError::Disconnected) => {}
-            Err(RecvTimeoutError::Timeout) => return Err(("the end of the output".into(), "nothing".into())),
-            Ok(line) => return Err(("the end of the output".into(), String::from_utf8_lossy(&line).into_owned())),
-        }
-        let status = self.child.wait().expect("the program was started here");
-        if status.code() == Some(0) { Ok(()) } else { Err(("status 0".into(), status.to_string())) }
-    }
+    let line = given.entries.last().map_or(String::new(), |entry| entry.line.clone());
+    let more = came.next().map_or_else(wrong, |line| String::from_utf8_lossy(line).into_owned());
+    Difference { number: given.entries.len(), line, due: "the end of the output, and status 0".into(), came: more }
 }
 
 pub fn compare(program: &str, given: &Given) -> Result<(), Difference> {
-    let mut talk = Talk::begin(program);
-    let compared = talk.replies(given).and_then(|()| {
-        let last = given.entries.len();
-        let line = given.entries.last().map_or(String::new(), |entry| entry.line.clone());
-        talk.end().map_err(|(due, came)| Difference { number: last, line, due, came })
-    });
-    if compared.is_err() {
-        // It may be waiting, or have ended by itself: either way it is not needed any more.
-        let _ = talk.child.kill();
-        let _ = talk.child.wait();
-    }
-    compared
+    let turns = if given.line_by_line { line_by_line(given) } else { at_once(given) };
+    talk::talk(program, &turns).map_err(|failure| difference(given, &failure))
 }
