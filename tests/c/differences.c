@@ -27,6 +27,10 @@ void check_differences(void) {
     report("differences");
 }
 
+// How many words a row is read for, and how many it may list, given and replied.
+#define WORDS 80
+#define MOST 32
+
 // A dialogue as far as it was told, where it is one that nobody forged.
 struct run {
     bool clean;
@@ -64,7 +68,7 @@ static void follow(struct run *r, const uint64_t *row) {
         }
     } else if (row[0] == 2) {
         r->clean = false;
-    } else if (reply[4 + reply[3]] == 1 || !r->clean) {
+    } else if (reply[4 + reply[3]] == 1 || !r->clean || r->told == 32) {
         return;
     } else {
         r->v[r->told++] = from_bits(words[0]);
@@ -74,19 +78,26 @@ static void follow(struct run *r, const uint64_t *row) {
     }
 }
 
+// The words of a line; those past its last are 0. False where it lists more than a row can.
+static bool read_row(const char *line, uint64_t *row) {
+    const char *at = line;
+    char *end;
+    for (size_t k = 0; k < WORDS; k++, at = end) {
+        row[k] = strtoull(at, &end, 16);
+    }
+    return row[3] <= MOST && row[4 + row[3] + 3] <= MOST;
+}
+
 void check_dialogue(const char *path) {
     FILE *dialogue = fopen(path, "r");
     char line[4096];
     struct run r = {.clean = false};
     uint64_t gradients = 0;
     while (dialogue != NULL && fgets(line, sizeof line, dialogue) != NULL) {
-        uint64_t row[256] = {0};
-        char *at = line, *end = line;
-        for (size_t k = 0; k < 256; k++, at = end) {
-            row[k] = strtoull(at, &end, 16);
-            if (end == at) {
-                break;
-            }
+        uint64_t row[WORDS];
+        if (!read_row(line, row)) {
+            same_bool("a row of the dialogue has its form", false, true);
+            break;
         }
         follow(&r, row);
         gradients += r.clean && row[4 + row[3]] == 1;

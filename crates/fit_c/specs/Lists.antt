@@ -12,7 +12,7 @@ listDotOf a b =
     cond (ltb 16 (length a)) nan
     (cond (eqb (length b) (length a)) (dotOf (fromSliceOf a (length a)) (fromSliceOf b (length a)) (length a)) nan)
 
--- NaN for more than sixteen; no other list has it, since a NaN in the list is passed over
+-- NaN for more than sixteen
 unfoldable pub listInfNormOf : List Float → Float
 listInfNormOf a = cond (ltb 16 (length a)) nan (infNormOf (fromSliceOf a (length a)) (length a))
 
