@@ -22,7 +22,8 @@ use Rattle.records.specs.declared.Counts.{Counts}
 use Rattle.records.specs.declared.Record.{Record}
 use Rattle.records.specs.Record.{simplexMark, searchMark, gradientFixedOf, gradientJobOf, validOf, Ranges, Open, Stands}
 use Rattle.stands.specs.Standing.{refusedOf, overOf, gradientDueOf, standingOf}
-use Rattle.optim.specs.Answer.{repeatsOf, steppedOf, gradedOf, takenOf, takenGradientOf, suitsOf, heardOf, answerOf, meetsOf, acceptsOf, countedOf, simplexToldOf, searchToldOf, descentToldOf, Worded, repliedOf}
+use Rattle.optim.specs.Answer.{repeatsOf, steppedOf, gradedOf, takenOf, takenGradientOf, suitsOf, heardOf, answerOf}
+use Rattle.optim.specs.Parts.{meetsOf, acceptsOf, countedOf, simplexToldOf, searchToldOf, descentToldOf, Worded, repliedOf}
 use Rattle.optim.proofs.Ranges.{ranges, open-of, stands, stepped-stands, graded-stands, one-word, n-words}
 
 -- ---- the record

@@ -18,7 +18,8 @@ ghost use Prim.Native.Nat.{_≤_, _<_};
 ghost use lib.ListN.{length};
 ghost use Rattle.records.specs.Record.{simplexMark, outcomeOf, blankOf, Ranges};
 ghost use Rattle.stands.specs.Standing.{replyWith, refusedOf};
-ghost use Rattle.optim.specs.Answer.{repeatsOf, suitsOf, meetsOf, acceptsOf, Worded, countedOf, simplexToldOf, searchToldOf, descentToldOf, Speaks, repliedOf, answerOf};
+ghost use Rattle.optim.specs.Answer.{repeatsOf, suitsOf, answerOf};
+ghost use Rattle.optim.specs.Parts.{meetsOf, acceptsOf, Worded, countedOf, simplexToldOf, searchToldOf, descentToldOf, Speaks, repliedOf};
 ghost use Rattle.optim.specs.Start.{differencesOf, simplexOf, searchOf, gradientOf, bfgsOf, lbfgsOf};
 
 const SIMPLEX: u64 = 1;

@@ -1,7 +1,7 @@
 -- `optim::accepts` meets its contract: each return follows the calls and tests that led to it. Assumes nothing.
 use borrow.Author.Needs.{needs}
 use borrow.Author.Tests.{eq-eqb, ne-eqb}
-use Rattle.optim.specs.Answer.{acceptsOf}
+use Rattle.optim.specs.Parts.{acceptsOf}
 use Rattle.optim.proofs.accepts.Statement.{statement}
 use Rattle.optim.proofs.accepts.Tie as tie
 

@@ -1,6 +1,6 @@
 -- `optim::counted` meets its contract: each return follows the calls and tests that led to it. Assumes nothing.
 use borrow.Author.Needs.{needs}
-use Rattle.optim.specs.Answer.{countedOf}
+use Rattle.optim.specs.Parts.{countedOf}
 use Rattle.optim.proofs.counted.Statement.{statement}
 use Rattle.optim.proofs.counted.Tie as tie
 

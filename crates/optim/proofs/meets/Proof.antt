@@ -1,7 +1,7 @@
 -- `optim::meets` meets its contract: each return follows the calls and tests that led to it. Assumes nothing.
 use borrow.Author.Needs.{needs}
 use borrow.Author.Tests.{eq-eqb, ne-eqb}
-use Rattle.optim.specs.Answer.{meetsOf}
+use Rattle.optim.specs.Parts.{meetsOf}
 use borrow.Author.Tests.{not-false}
 use mathlib.Core.Path.{sym, _∙_}
 use native.Mathlib.Omega.{arith}

@@ -1,7 +1,7 @@
 -- `optim::replied` meets its contract: each return follows the calls and tests that led to it. Assumes nothing.
 use borrow.Author.Needs.{needs}
 use borrow.Author.Tests.{eq-eqb, ne-eqb}
-use Rattle.optim.specs.Answer.{repliedOf}
+use Rattle.optim.specs.Parts.{repliedOf}
 use Rattle.protocol.specs.Protocol.{replyOf}
 use Rattle.stands.specs.Standing.{replyWith}
 use Rattle.optim.proofs.replied.Statement.{statement}

@@ -1,6 +1,6 @@
 -- `optim::search_told` meets its contract: each return follows the calls and tests that led to it. Assumes nothing.
 use borrow.Author.Needs.{needs}
-use Rattle.optim.specs.Answer.{searchToldOf}
+use Rattle.optim.specs.Parts.{searchToldOf}
 use mathlib.Core.Path.{sym, _∙_}
 use native.Mathlib.Omega.{arith}
 use native.Mathlib.Nat.{le-of-eq}

@@ -1,6 +1,6 @@
 -- `optim::simplex_told` meets its contract: each return follows the calls and tests that led to it. Assumes nothing.
 use borrow.Author.Needs.{needs}
-use Rattle.optim.specs.Answer.{simplexToldOf}
+use Rattle.optim.specs.Parts.{simplexToldOf}
 use Rattle.optim.proofs.simplex_told.Statement.{statement}
 use Rattle.optim.proofs.simplex_told.Tie as tie
 
