@@ -16,8 +16,9 @@ use stands::Spoken;
 ghost use mathlib.Core.Path.{_≡_};
 ghost use Prim.Native.Nat.{_≤_, _<_};
 ghost use lib.ListN.{length};
-ghost use Rattle.records.specs.Record.{simplexMark, outcomeOf, blankOf, Ranges};
-ghost use Rattle.stands.specs.Standing.{replyWith, refusedOf};
+ghost use Rattle.records.specs.Record.{simplexMark, outcomeOf, blankOf, Ranges, Stands};
+ghost use Rattle.stands.specs.Standing.{refusedOf, standingSearchOf, standingDifferencesOf};
+ghost use Rattle.stands.specs.Spoken.{replyWith};
 ghost use Rattle.optim.specs.Answer.{repeatsOf, suitsOf, answerOf};
 ghost use Rattle.optim.specs.Parts.{meetsOf, acceptsOf, Worded, countedOf, simplexToldOf, searchToldOf, descentToldOf, Speaks, repliedOf};
 ghost use Rattle.optim.specs.Start.{differencesOf, simplexOf, searchOf, gradientOf, bfgsOf, lbfgsOf};
@@ -230,6 +231,28 @@ pub fn answer(r: Record, number: u64, kind: u8, words: &[f64]) -> Answered
     answered(s, q)
 }
 
+// What stands in a search that starts.
+fn search_opened(r: Record) -> Spoken
+    requires { ⌜ Stands r ⌝ }
+    ensures { λ s. ⌜ replyWith s r ≡ standingSearchOf r ⌝ }
+{
+    let d = r.descent;
+    let line = d.line;
+    let search = d.search;
+    let fixed = stands::search_fixed(r);
+    stands::standing_search(r.accepted, fixed, line, search)
+}
+
+// What stands in differences that start.
+fn differences_opened(r: Record) -> Spoken
+    requires { ⌜ Stands r ⌝ }
+    requires { ⌜ r .diff .at ≤ r .n ⌝ }
+    ensures { λ s. ⌜ replyWith s r ≡ standingDifferencesOf r ⌝ }
+{
+    let diff = r.diff;
+    stands::standing_differences(r.accepted, r.n, diff)
+}
+
 // Starts central differences at x. A list of more than sixteen is refused with 2; of none it ends at
 // once with an empty gradient.
 pub fn differences(x: &[f64]) -> Answered
@@ -239,7 +262,7 @@ pub fn differences(x: &[f64]) -> Answered
         return refused(2, 0);
     }
     let r = starts::begun_record(x);
-    let s = stands::standing_differences(r);
+    let s = differences_opened(r);
     answered(s, r)
 }
 
@@ -257,7 +280,7 @@ pub fn simplex(x: &[f64], o: SimplexOptions, a: Allowances) -> Answered
         return refused(12, 1);
     }
     let r = starts::simplex_record(point, n, o, a);
-    let s = stands::asks(r, Kind::Value, point);
+    let s = stands::asks(r.accepted, Kind::Value, point);
     answered(s, r)
 }
 
@@ -288,7 +311,7 @@ pub fn search(
         return refused(lent.number, lent.detail);
     }
     let r = starts::search_record(line, n, step, o, gradients);
-    let s = stands::standing_search(r);
+    let s = search_opened(r);
     answered(s, r)
 }
 
@@ -306,7 +329,7 @@ fn gradient(x: &[f64], o: GradientOptions, a: Allowances, limited: bool) -> Answ
         return refused(12, 1);
     }
     let r = starts::gradient_record(point, n, o, a, limited);
-    let s = stands::asks(r, Kind::Value, point);
+    let s = stands::asks(r.accepted, Kind::Value, point);
     answered(s, r)
 }
 

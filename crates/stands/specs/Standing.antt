@@ -3,32 +3,19 @@ use Prim.Native.Nat.{ℕ, _+_}
 use mathlib.Core.Bool.{Bool, false, cond, not}
 use mathlib.Core.List.{List}
 use lib.Dec.{eqb, ltb, leb}
-use lib.ListN.{replicate}
 use lib.Ieee.{Float}
-use Rattle.float.specs.Binary64.{plusZero}
 use Rattle.vector.specs.Lists.{first}
 use Rattle.protocol.specs.declared.Kind.{Kind}
 use Rattle.protocol.specs.declared.Kind.the-variants.{Value, Gradient}
 use Rattle.protocol.specs.declared.Termination.{Termination}
 use Rattle.protocol.specs.declared.Termination.the-variants.{GradientTolerance, SimplexTolerance, StepTolerance, FunctionTolerance, MaxIterations, MaxFevals, LineSearchFailed, GradientFailed, ObjectiveResolution}
-use Rattle.protocol.specs.declared.Said.the-variants.{Refused}
-use Rattle.protocol.specs.Protocol.{Result, SearchResult, fitted, searched, differenced, Reply, ask, ended, refused, replyOf}
+use Rattle.protocol.specs.Protocol.{Result, SearchResult, fitted, searched, differenced, Reply, ask, ended, refused}
 use Rattle.objective.specs.Step.{probeOf}
 use Rattle.linesearch.specs.Step as linesearch
 use Rattle.quasinewton.specs.Step as quasinewton
 use Rattle.neldermead.specs.Step.{byTolerance, byResolution, byIterations, notFinite}
 use Rattle.records.specs.declared.Record.{Record}
-use Rattle.stands.specs.declared.Spoken.{Spoken}
 use Rattle.records.specs.Record.{simplexMark, searchMark, lastAsking, searchFixedOf, gradientFixedOf, gradientJobOf}
-
--- a reply in 01's words, and the record that it is of
-unfoldable pub replyWith : Spoken → Record → Reply × Record
-unfolding replyOf
-replyWith s r = (replyOf (s .said) (r .n) (s .x) (s .g), r)
-
--- a refusal as it is said: it speaks of no point
-abbrev pub refusalOf : ℕ → ℕ → Spoken
-refusalOf number detail = record { said = Refused number detail; x = replicate 16 plusZero; g = replicate 16 plusZero }
 
 -- "a refused answer leaves the record bit for bit unchanged"
 abbrev pub refusedOf : Record → ℕ → ℕ → Reply × Record

@@ -1,16 +1,22 @@
 // What stands in a record: its open question, or its outcome. All of it is a function of the record.
+use linesearch::Line;
+use linesearch::Search;
 use neldermead::Fixed;
+use objective::Differences;
 use protocol::Found;
 use protocol::Kind;
 use protocol::Said;
 use protocol::Summary;
 use protocol::Termination;
+use quasinewton::Descent;
+use records::Counts;
 use records::Record;
+use vertices::Vertex;
 ghost use mathlib.Core.Path.{_≡_};
 ghost use Prim.Native.Nat.{_≤_};
-ghost use Rattle.protocol.specs.Protocol.{ended, searched};
 ghost use Rattle.records.specs.Record.{fixedOf, searchFixedOf, gradientFixedOf, Stands};
-ghost use Rattle.stands.specs.Standing.{refusalOf, replyWith, overOf, gradientDueOf, terminationOf, asksOf, endsOf, searchResultOf, descentTerminationOf, descentConvergedOf, descentEndsOf, standingDescentOf, standingSimplexOf, standingSearchOf, standingDifferencesOf, standingOf};
+ghost use Rattle.stands.specs.Standing.{overOf, gradientDueOf, terminationOf, descentTerminationOf, descentConvergedOf, standingOf};
+ghost use Rattle.stands.specs.Spoken.{replyWith, refusalOf, askedOf, endedOf, simplexSpokenOf, foundOf, searchSpokenOf, descentEndedOf, descentSpokenOf, differencesSpokenOf};
 
 const SIMPLEX: u64 = 1;
 
@@ -160,33 +166,30 @@ fn termination(phase: u64) -> Termination
     Termination::MaxFevals
 }
 
-// The question of a kind at x.
-pub fn asks(r: Record, kind: Kind, x: [f64; 16]) -> Spoken
-    requires { ⌜ Stands r ⌝ }
-    ensures { λ s. ⌜ replyWith s r ≡ asksOf r kind x ⌝ }
+// The question of a kind at x, after `accepted` answers.
+pub fn asks(accepted: u64, kind: Kind, x: [f64; 16]) -> Spoken
+    requires { ⌜ accepted ≤ 40000000001 ⌝ }
+    ensures { λ s. ⌜ s ≡ askedOf accepted kind x ⌝ }
 {
     let g = [0.0; 16];
     Spoken {
-        said: Said::Ask(r.accepted + 1, kind),
+        said: Said::Ask(accepted + 1, kind),
         x,
         g,
     }
 }
 
 // The result of a simplex fit.
-fn ends(r: Record) -> Spoken
-    ensures { λ s. ⌜ replyWith s r ≡ endsOf r ⌝ }
+fn ends(counts: Counts, phase: u64, rounds: u64, best: Vertex) -> Spoken
+    ensures { λ s. ⌜ s ≡ endedOf counts phase rounds best ⌝ }
 {
-    let s = r.simplex;
-    let counts = r.counts;
-    let best = s.best;
     let x = best.x;
     let g = [0.0; 16];
-    let reason = termination(s.phase);
+    let reason = termination(phase);
     let summary = Summary {
         reason,
-        converged: s.phase == TOLERANCE,
-        iterations: s.rounds,
+        converged: phase == TOLERANCE,
+        iterations: rounds,
         fevals: counts.fevals,
         gevals: counts.gevals,
         f: best.f,
@@ -198,28 +201,31 @@ fn ends(r: Record) -> Spoken
     }
 }
 
-// What stands in a simplex fit.
-fn standing_simplex(r: Record) -> Spoken
-    requires { ⌜ Stands r ⌝ }
-    ensures { λ s. ⌜ replyWith s r ≡ standingSimplexOf r ⌝ }
+// What stands in a simplex fit: parts of its record are passed, since the whole would be copied.
+fn standing_simplex(
+    accepted: u64,
+    counts: Counts,
+    phase: u64,
+    rounds: u64,
+    x: [f64; 16],
+    best: Vertex,
+) -> Spoken
+    requires { ⌜ accepted ≤ 40000000001 ⌝ }
+    ensures { λ s. ⌜ s ≡ simplexSpokenOf accepted counts phase rounds x best ⌝ }
 {
-    let s = r.simplex;
-    let x = s.x;
-    if s.phase <= LAST_ASKING {
-        return asks(r, Kind::Value, x);
+    if phase <= LAST_ASKING {
+        return asks(accepted, Kind::Value, x);
     }
-    if s.phase == NOT_FINITE {
+    if phase == NOT_FINITE {
         return refused(20, 0);
     }
-    ends(r)
+    ends(counts, phase, rounds, best)
 }
 
 // The outcome of a search.
-fn found(r: Record) -> Spoken
-    ensures { λ s. ⌜ replyWith s r ≡ (ended (searched (searchResultOf r)), r) ⌝ }
+fn found(s: Search) -> Spoken
+    ensures { λ r. ⌜ r ≡ foundOf s ⌝ }
 {
-    let d = r.descent;
-    let s = d.search;
     let best = s.best;
     let trial = best.trial;
     let x = best.x;
@@ -238,22 +244,19 @@ fn found(r: Record) -> Spoken
 }
 
 // What stands in a search.
-pub fn standing_search(r: Record) -> Spoken
-    requires { ⌜ Stands r ⌝ }
-    ensures { λ s. ⌜ replyWith s r ≡ standingSearchOf r ⌝ }
+pub fn standing_search(accepted: u64, fixed: linesearch::Fixed, line: Line, s: Search) -> Spoken
+    requires { ⌜ accepted ≤ 40000000001 ⌝ }
+    requires { ⌜ fixed .n ≤ 16 ⌝ }
+    ensures { λ r. ⌜ r ≡ searchSpokenOf accepted fixed line s ⌝ }
 {
-    let d = r.descent;
-    let s = d.search;
-    let line = d.line;
     if LAST_ASKING_SEARCH < s.phase {
-        return found(r);
+        return found(s);
     }
-    let fixed = search_fixed(r);
     let x = linesearch::probe(fixed, line, s);
     if s.phase == ASKS_GRADIENT {
-        return asks(r, Kind::Gradient, x);
+        return asks(accepted, Kind::Gradient, x);
     }
-    asks(r, Kind::Value, x)
+    asks(accepted, Kind::Value, x)
 }
 
 // The reason that a gradient fit's phase stands for.
@@ -291,20 +294,17 @@ fn descent_converged(phase: u64) -> bool
 }
 
 // The result of a gradient fit.
-fn descent_ends(r: Record) -> Spoken
-    ensures { λ s. ⌜ replyWith s r ≡ descentEndsOf r ⌝ }
+fn descent_ends(counts: Counts, phase: u64, rounds: u64, line: Line) -> Spoken
+    ensures { λ s. ⌜ s ≡ descentEndedOf counts phase rounds line ⌝ }
 {
-    let d = r.descent;
-    let counts = r.counts;
-    let line = d.line;
     let x = line.x;
     let g = [0.0; 16];
-    let reason = descent_termination(d.phase);
-    let converged = descent_converged(d.phase);
+    let reason = descent_termination(phase);
+    let converged = descent_converged(phase);
     let summary = Summary {
         reason,
         converged,
-        iterations: d.rounds,
+        iterations: rounds,
         fevals: counts.fevals,
         gevals: counts.gevals,
         f: line.f,
@@ -317,35 +317,35 @@ fn descent_ends(r: Record) -> Spoken
 }
 
 // What stands in a gradient fit.
-fn standing_descent(r: Record) -> Spoken
-    requires { ⌜ Stands r ⌝ }
-    ensures { λ s. ⌜ replyWith s r ≡ standingDescentOf r ⌝ }
+fn standing_descent(accepted: u64, counts: Counts, fixed: quasinewton::Fixed, d: Descent) -> Spoken
+    requires { ⌜ accepted ≤ 40000000001 ⌝ }
+    requires { ⌜ fixed .n ≤ 16 ⌝ }
+    ensures { λ s. ⌜ s ≡ descentSpokenOf accepted counts fixed d ⌝ }
 {
-    let d = r.descent;
-    let fixed = gradient_fixed(r);
+    let line = d.line;
     let asking = quasinewton::asks(d);
     let slopes = quasinewton::gradient_due(d);
     if asking {
         let x = quasinewton::probe(fixed, d);
         if slopes {
-            return asks(r, Kind::Gradient, x);
+            return asks(accepted, Kind::Gradient, x);
         }
-        return asks(r, Kind::Value, x);
+        return asks(accepted, Kind::Value, x);
     }
     if d.phase == BY_REFUSAL {
         return refused(d.number, d.detail);
     }
-    descent_ends(r)
+    descent_ends(counts, d.phase, d.rounds, line)
 }
 
 // What stands in differences.
-pub fn standing_differences(r: Record) -> Spoken
-    requires { ⌜ Stands r ⌝ }
-    requires { ⌜ r .diff .at ≤ r .n ⌝ }
-    ensures { λ s. ⌜ replyWith s r ≡ standingDifferencesOf r ⌝ }
+pub fn standing_differences(accepted: u64, n: usize, diff: Differences) -> Spoken
+    requires { ⌜ accepted ≤ 40000000001 ⌝ }
+    requires { ⌜ n ≤ 16 ⌝ }
+    requires { ⌜ diff .at ≤ n ⌝ }
+    ensures { λ s. ⌜ s ≡ differencesSpokenOf accepted n diff ⌝ }
 {
-    let diff = r.diff;
-    if diff.at == r.n {
+    if diff.at == n {
         let x = diff.x;
         let g = diff.g;
         return Spoken {
@@ -355,7 +355,7 @@ pub fn standing_differences(r: Record) -> Spoken
         };
     }
     let x = objective::probe(diff);
-    asks(r, Kind::Value, x)
+    asks(accepted, Kind::Value, x)
 }
 
 // The question or the outcome that stands.
@@ -363,14 +363,22 @@ pub fn standing(r: Record) -> Spoken
     requires { ⌜ Stands r ⌝ }
     ensures { λ s. ⌜ replyWith s r ≡ standingOf r ⌝ }
 {
+    let counts = r.counts;
+    let s = r.simplex;
+    let d = r.descent;
+    let diff = r.diff;
     if r.job == SIMPLEX {
-        return standing_simplex(r);
+        let x = s.x;
+        let best = s.best;
+        return standing_simplex(r.accepted, counts, s.phase, s.rounds, x, best);
     }
     if r.job == SEARCH {
-        return standing_search(r);
+        let line = d.line;
+        let search = d.search;
+        return standing_search(r.accepted, search_fixed(r), line, search);
     }
     if records::gradient_job(r.job) {
-        return standing_descent(r);
+        return standing_descent(r.accepted, counts, gradient_fixed(r), d);
     }
-    standing_differences(r)
+    standing_differences(r.accepted, r.n, diff)
 }

@@ -1,7 +1,7 @@
 -- `optim::answered` meets its contract: each return follows the calls and tests that led to it. Assumes nothing.
 use mathlib.Core.Path.{refl}
 use Rattle.records.specs.Record.{outcomeOf}
-use Rattle.stands.specs.Standing.{replyWith}
+use Rattle.stands.specs.Spoken.{replyWith}
 use Rattle.optim.proofs.answered.Statement.{statement}
 use Rattle.optim.proofs.answered.Tie as tie
 

@@ -24,4 +24,4 @@ differences-spec =
     (λ c κs. search needs)
     (λ c κs. (subst Stands (sym (c .begun-record .ensures)) (begun-stands (c .before .before .before .args .x .now) (c .before .if1 .left)), subst Within (sym (c .begun-record .ensures)) (begun-within _)))
     (λ c κs. search needs)
-    (λ c. rw (differences-open _, ← c .before .before .begun-record .ensures, ← c .before .standing-differences .ensures, ← c .answered .ensures, le-ltb _ _ (c .before .before .before .if1 .left))))
+    (λ c. rw (differences-open _, ← c .before .before .begun-record .ensures, ← c .before .differences-opened .ensures, ← c .answered .ensures, le-ltb _ _ (c .before .before .before .if1 .left))))

@@ -9,12 +9,14 @@ use Rattle.records.specs.Record.{Stands}
 use native.Mathlib.Nat.{le-refl}
 use Rattle.starts.proofs.Limits.{gradient-limits}
 use Rattle.optim.proofs.Ranges.{gradient-stands}
+use Rattle.protocol.specs.Protocol.{replyOf}
+use Rattle.stands.specs.Spoken.{replyWith}
 use Rattle.optim.proofs.Openings.{gradient-asks}
 use Rattle.optim.proofs.gradient.Statement.{statement}
 use Rattle.optim.proofs.gradient.Tie as tie
 
 pub gradient-spec : {M : Type 1} → statement M
-unfolding gradientOf
+unfolding gradientOf replyWith replyOf
 gradient-spec =
     tie.close
     (tie.spec
@@ -26,6 +28,6 @@ gradient-spec =
     (λ c κs. search needs)
     (λ c. rw (← c .before .before .before .before .before .before .gradient-refusal .ensures, ← c .before .before .before .from-slice .ensures, ← c .before .before .all-finite .ensures, ← c .refused2 .ensures, eq-eqb _ _ (c .before .before .before .before .if1 .left), c .before .if2 .taken))
     (λ c κs. (gradient-limits (length (c .before .before .before .before .before .before .before .args .x .now)) (c .before .before .before .before .before .before .before .args .o) (c .before .before .before .before .before .before .before .args .a) (c .before .before .before .before .before .before .before .args .limited) (sym (ap (λ (w : Refusal). w .number) (c .before .before .before .before .before .gradient-refusal .ensures)) ∙ c .before .before .before .if1 .left)))
-    (λ c κs. subst Stands (sym (c .gradient-record .ensures)) (gradient-stands _ _ _ _ _ ((gradient-limits (length (c .before .before .before .before .before .before .before .before .args .x .now)) (c .before .before .before .before .before .before .before .before .args .o) (c .before .before .before .before .before .before .before .before .args .a) (c .before .before .before .before .before .before .before .before .args .limited) (sym (ap (λ (w : Refusal). w .number) (c .before .before .before .before .before .before .gradient-refusal .ensures)) ∙ c .before .before .before .before .if1 .left)))))
+    (λ c κs. (subst Stands (sym (c .gradient-record .ensures)) (gradient-stands _ _ _ _ _ ((gradient-limits (length (c .before .before .before .before .before .before .before .before .args .x .now)) (c .before .before .before .before .before .before .before .before .args .o) (c .before .before .before .before .before .before .before .before .args .a) (c .before .before .before .before .before .before .before .before .args .limited) (sym (ap (λ (w : Refusal). w .number) (c .before .before .before .before .before .before .gradient-refusal .ensures)) ∙ c .before .before .before .before .if1 .left))))) .numbers)
     (λ c κs. search needs)
-    (λ c. rw (← c .before .before .before .before .before .before .before .before .gradient-refusal .ensures, ← c .before .before .before .before .before .from-slice .ensures, ← c .before .before .before .before .all-finite .ensures, gradient-asks _ _ _ _ _, ← c .before .before .gradient-record .ensures, ← c .before .asks .ensures, ← c .answered .ensures, eq-eqb _ _ (c .before .before .before .before .before .before .if1 .left), c .before .before .before .if2 .left)))
+    (λ c. rw (← c .before .before .before .before .before .before .before .before .gradient-refusal .ensures, ← c .before .before .before .before .before .from-slice .ensures, ← c .before .before .before .before .all-finite .ensures, gradient-asks _ _ _ _ _, ← c .before .before .gradient-record .ensures, c .answered .ensures, c .before .asks .ensures, eq-eqb _ _ (c .before .before .before .before .before .before .if1 .left), c .before .before .before .if2 .left)))

@@ -1,7 +1,7 @@
 -- `optim::refused` meets its contract: each return follows the calls and tests that led to it. Assumes nothing.
 use borrow.Author.Needs.{needs}
 use Rattle.protocol.specs.Protocol.{replyOf}
-use Rattle.stands.specs.Standing.{replyWith}
+use Rattle.stands.specs.Spoken.{replyWith}
 use Rattle.optim.proofs.refused.Statement.{statement}
 use Rattle.optim.proofs.refused.Tie as tie
 

@@ -3,7 +3,7 @@ use borrow.Author.Needs.{needs}
 use borrow.Author.Tests.{eq-eqb, ne-eqb}
 use Rattle.optim.specs.Parts.{repliedOf}
 use Rattle.protocol.specs.Protocol.{replyOf}
-use Rattle.stands.specs.Standing.{replyWith}
+use Rattle.stands.specs.Spoken.{replyWith}
 use Rattle.optim.proofs.replied.Statement.{statement}
 use Rattle.optim.proofs.replied.Tie as tie
 

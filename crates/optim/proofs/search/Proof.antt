@@ -31,4 +31,4 @@ search-spec =
     (λ c κs. search needs)
     (λ c κs. subst Stands (sym (c .search-record .ensures)) (search-stands _ _ _ _ _ ((search-limits (length (c .before .before .before .before .before .before .before .before .before .before .before .before .before .before .args .x .now)) (length (c .before .before .before .before .before .before .before .before .before .before .before .before .before .before .args .d .now)) (length (c .before .before .before .before .before .before .before .before .before .before .before .before .before .before .args .g .now)) (c .before .before .before .before .before .before .before .before .before .before .before .before .before .before .args .o) (sym (ap (λ (w : Refusal). w .number) (c .before .before .before .before .before .before .before .before .before .before .search-refusal .ensures)) ∙ c .before .before .before .before .before .before .before .before .if1 .left)) .0)))
     (λ c κs. search needs)
-    (λ c. rw (← c .before .before .before .before .before .before .before .before .before .before .before .before .search-refusal .ensures, ← c .before .before .before .before .before .before .before .before .before .from-slice .ensures, ← c .before .before .before .before .before .before .before .before .from-slice2 .ensures, ← c .before .before .before .before .before .before .before .from-slice3 .ensures, ← c .before .before .before .before .before .before .line-from .ensures, ← c .before .before .before .before .before .line-refusal .ensures, search-opens _ _ _ _ _, ← c .before .before .search-record .ensures, ← c .before .standing-search .ensures, ← c .answered .ensures, eq-eqb _ _ (c .before .before .before .before .before .before .before .before .before .before .if1 .left), eq-eqb _ _ (c .before .before .before .if2 .left))))
+    (λ c. rw (← c .before .before .before .before .before .before .before .before .before .before .before .before .search-refusal .ensures, ← c .before .before .before .before .before .before .before .before .before .from-slice .ensures, ← c .before .before .before .before .before .before .before .before .from-slice2 .ensures, ← c .before .before .before .before .before .before .before .from-slice3 .ensures, ← c .before .before .before .before .before .before .line-from .ensures, ← c .before .before .before .before .before .line-refusal .ensures, search-opens _ _ _ _ _, ← c .before .before .search-record .ensures, ← c .before .search-opened .ensures, ← c .answered .ensures, eq-eqb _ _ (c .before .before .before .before .before .before .before .before .before .before .if1 .left), eq-eqb _ _ (c .before .before .before .if2 .left))))

@@ -1,13 +1,12 @@
 -- `stands::asks` meets its contract: each return follows the calls and tests that led to it. Assumes nothing.
 use borrow.Author.Needs.{needs}
 use mathlib.Core.Path.{refl}
-use Rattle.protocol.specs.Protocol.{replyOf}
-use Rattle.stands.specs.Standing.{replyWith}
+use lib.Ieee.{ofBits}
 use Rattle.stands.proofs.asks.Statement.{statement}
 use Rattle.stands.proofs.asks.Tie as tie
 
 pub asks-spec : {M : Type 1} → statement M
-unfolding replyWith replyOf
+unfolding ofBits
 asks-spec =
     tie.close
     (tie.spec

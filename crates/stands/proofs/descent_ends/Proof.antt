@@ -1,12 +1,11 @@
 -- `stands::descent_ends` meets its contract: each return follows the calls and tests that led to it. Assumes nothing.
 use borrow.Author.Needs.{needs}
-use Rattle.stands.specs.Standing.{descentResultOf, replyWith}
-use Rattle.protocol.specs.Protocol.{replyOf}
+use lib.Ieee.{ofBits}
 use Rattle.stands.proofs.descent_ends.Statement.{statement}
 use Rattle.stands.proofs.descent_ends.Tie as tie
 
 pub descent-ends-spec : {M : Type 1} → statement M
-unfolding descentResultOf replyWith replyOf
+unfolding ofBits
 descent-ends-spec =
     tie.close
     (tie.spec

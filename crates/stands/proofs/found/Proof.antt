@@ -1,12 +1,11 @@
 -- `stands::found` meets its contract: each return follows the calls and tests that led to it. Assumes nothing.
 use mathlib.Core.Path.{refl}
-use Rattle.stands.specs.Standing.{searchResultOf, replyWith}
-use Rattle.protocol.specs.Protocol.{replyOf}
+use Rattle.stands.specs.Spoken.{foundOf}
 use Rattle.stands.proofs.found.Statement.{statement}
 use Rattle.stands.proofs.found.Tie as tie
 
 pub found-spec : {M : Type 1} → statement M
-unfolding searchResultOf replyWith replyOf
+unfolding foundOf
 found-spec =
     tie.close
     (tie.spec

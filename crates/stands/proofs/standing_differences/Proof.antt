@@ -1,13 +1,12 @@
 -- `stands::standing_differences` meets its contract: each return follows the calls and tests that led to it. Assumes nothing.
 use borrow.Author.Needs.{needs}
 use borrow.Author.Tests.{eq-eqb, ne-eqb}
-use Rattle.stands.specs.Standing.{standingDifferencesOf, replyWith}
-use Rattle.protocol.specs.Protocol.{replyOf}
+use Rattle.stands.specs.Spoken.{differencesSpokenOf}
 use Rattle.stands.proofs.standing_differences.Statement.{statement}
 use Rattle.stands.proofs.standing_differences.Tie as tie
 
 pub standing-differences-spec : {M : Type 1} → statement M
-unfolding standingDifferencesOf replyWith replyOf
+unfolding differencesSpokenOf
 standing-differences-spec =
     tie.close
     (tie.spec
