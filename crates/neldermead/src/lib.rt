@@ -4,7 +4,8 @@ use protocol::SimplexOptions;
 use vertices::Vertex;
 ghost use mathlib.Core.Path.{_≡_};
 ghost use Prim.Native.Nat.{_≤_, _<_};
-ghost use Rattle.neldermead.specs.Step.{orderedOf, trialOf, reflectOf, reasonOf, rerunOrEnd, doneOf, testedOf, headedOf, replacedOf, buildOf, settledOf, builtOf, reflectedOf, expandedOf, shrinkOf, outsideOf, insideOf, shrinkingOf, toldOf, startOf};
+ghost use Rattle.neldermead.specs.Step.{building, reasonOf, headedOf, toldOf, startOf};
+ghost use Rattle.neldermead.specs.Parts.{amongOf, takenOf, reflectionOf, outcomeOf, placeOf, nextAtOf, farOf, coefficientOf, nextPointOf, nextPhaseOf, verdictOf};
 
 // The reflection's coefficient.
 const ALPHA: f64 = 1.0;
@@ -32,6 +33,19 @@ const FEVALS: u64 = 10;
 
 const NOT_FINITE: u64 = 11;
 
+// What an answer comes to is the phase of the next question, or one of these: the fit has ended before; a
+// new simplex is whole; the point told or the reflected point takes the worst vertex's place; the last vertex
+// is drawn to the best.
+const RESTS: u64 = 0;
+
+const BUILT: u64 = 7;
+
+const TAKES: u64 = 8;
+
+const KEEPS: u64 = 9;
+
+const SHRUNK: u64 = 10;
+
 // What the start fixes. The allowances are numbers: an absent one is its default. Coefficients are not
 // kept: they are made anew from n and the options, so that no record can hold others.
 pub struct Fixed {
@@ -56,49 +70,174 @@ pub struct Simplex {
     pub v: [Vertex; 17],
 }
 
-// The vertices in order, and the best of all runs.
-fn ordered(n: usize, s: Simplex) -> Simplex
-    requires { ⌜ n ≤ 16 ⌝ }
-    ensures { λ r. ⌜ r ≡ orderedOf n s ⌝ }
+// A copy of the vertices costs more than a move does. So each decision is a number, and `told` and `headed`
+// alone hold a Simplex, in one local whose parts are replaced; each has one call site.
+
+// By whether vertices are left to be asked for.
+fn among(at: usize, n: usize, more: u64, last: u64) -> u64
+    ensures { λ r. ⌜ r ≡ amongOf at n more last ⌝ }
 {
-    let v = s.v;
-    let w = vertices::sorted(v, n);
-    let first = w[0];
-    let old = s.best;
-    let best = vertices::better_of(first, old);
-    let mut q = s;
-    q.v = w;
-    q.best = best;
-    q
+    if at < n {
+        return more;
+    }
+    last
 }
 
-// A trial point on the line through the worst vertex and the centroid.
-fn trial(n: usize, s: Simplex, phase: u64, coef: f64) -> Simplex
-    requires { ⌜ n ≤ 16 ⌝ }
-    ensures { λ r. ⌜ r ≡ trialOf n s phase coef ⌝ }
+// By whether the point told is good enough to be taken.
+fn taken(good: bool, otherwise: u64) -> u64
+    ensures { λ r. ⌜ r ≡ takenOf good otherwise ⌝ }
 {
-    let worst = s.v[n];
-    let w = worst.x;
-    let c = s.cen;
-    let x = vector::towards(c, w, coef, n);
-    let mut q = s;
-    q.phase = phase;
-    q.x = x;
-    q
+    if good {
+        return TAKES;
+    }
+    otherwise
 }
 
-// A round begins: the reflected point is asked for.
-fn reflect(n: usize, s: Simplex) -> Simplex
-    requires { ⌜ n ≤ 16 ⌝ }
-    requires { ⌜ s .rounds < 18446744073709551615 ⌝ }
-    ensures { λ r. ⌜ r ≡ reflectOf n s ⌝ }
+// What the value of the reflected point comes to.
+fn reflection(f: f64, best: f64, second: f64, worst: f64) -> u64
+    ensures { λ r. ⌜ r ≡ reflectionOf f best second worst ⌝ }
 {
-    let v = s.v;
-    let c = vertices::centroid(v, n);
-    let mut q = s;
-    q.rounds = s.rounds + 1;
-    q.cen = c;
-    trial(n, q, REFLECTED, ALPHA)
+    if f < best {
+        return EXPANDED;
+    }
+    if f < second {
+        return TAKES;
+    }
+    if f < worst {
+        return OUTSIDE;
+    }
+    INSIDE
+}
+
+// What the value f comes to, beside the best, the second worst and the worst value and the reflected one.
+fn outcome(
+    phase: u64,
+    at: usize,
+    n: usize,
+    f: f64,
+    best: f64,
+    second: f64,
+    worst: f64,
+    refl: f64,
+) -> u64
+    ensures { λ r. ⌜ r ≡ outcomeOf phase at n f best second worst refl ⌝ }
+{
+    if phase == BUILDING {
+        return among(at, n, BUILDING, BUILT);
+    }
+    if phase == REFLECTED {
+        return reflection(f, best, second, worst);
+    }
+    if phase == EXPANDED {
+        return taken(f < refl, KEEPS);
+    }
+    if phase == OUTSIDE {
+        return taken(f <= refl, SHRINKING);
+    }
+    if phase == INSIDE {
+        return taken(f < worst, SHRINKING);
+    }
+    if phase == SHRINKING {
+        return among(at, n, SHRINKING, SHRUNK);
+    }
+    RESTS
+}
+
+// The place among the vertices of the point told; 17 where it has none.
+fn place(phase: u64, at: usize, n: usize, what: u64) -> usize
+    ensures { λ r. ⌜ r ≡ placeOf phase at n what ⌝ }
+{
+    if phase == BUILDING {
+        return at;
+    }
+    if phase == SHRINKING {
+        return at;
+    }
+    if what == TAKES {
+        return n;
+    }
+    17
+}
+
+// The vertex that is asked for next.
+fn next_at(phase: u64, at: usize, what: u64) -> usize
+    requires { ⌜ at ≤ 16 ⌝ }
+    ensures { λ r. ⌜ r ≡ nextAtOf phase at what ⌝ }
+{
+    if what == BUILDING {
+        return at + 1;
+    }
+    if what == SHRINKING {
+        if phase == SHRINKING {
+            return at + 1;
+        }
+        return 1;
+    }
+    at
+}
+
+// The vertex from which the next point is made: the one to be drawn to the best, or the worst.
+fn far(n: usize, at: usize, what: u64) -> usize
+    ensures { λ r. ⌜ r ≡ farOf n at what ⌝ }
+{
+    if what == SHRINKING {
+        return at;
+    }
+    n
+}
+
+// A trial's coefficient.
+fn coefficient(o: SimplexOptions, n: usize, what: u64) -> f64
+    requires { ⌜ n ≤ 16 ⌝ }
+    ensures { λ r. ⌜ r ≡ coefficientOf o n what ⌝ }
+{
+    if what == EXPANDED {
+        return ALPHA * vertices::expansion(o, n);
+    }
+    if what == OUTSIDE {
+        return ALPHA * vertices::contraction(o, n);
+    }
+    -vertices::contraction(o, n)
+}
+
+// The next point: the best vertex, the seed of a new simplex, with coordinate i displaced; the vertex `old`
+// drawn to the best; or a trial on the line through the centroid c and the worst vertex, `old`.
+fn next_point(
+    o: SimplexOptions,
+    n: usize,
+    i: usize,
+    what: u64,
+    x: [f64; 16],
+    c: [f64; 16],
+    best: Vertex,
+    old: Vertex,
+) -> [f64; 16]
+    requires { ⌜ n ≤ 16 ⌝ }
+    requires { ⌜ (what ≡ building → i < 16) ⌝ }
+    ensures { λ r. ⌜ r ≡ nextPointOf o n i what x c best old ⌝ }
+{
+    let b = best.x;
+    let w = old.x;
+    if what == RESTS {
+        return x;
+    }
+    if what == BUILDING {
+        return vertices::corner(o.step, b, i);
+    }
+    if what == SHRINKING {
+        return vector::shrunk(b, w, vertices::reduction(o, n), n);
+    }
+    vector::towards(c, w, coefficient(o, n, what), n)
+}
+
+// The next phase, where no round ends.
+fn next_phase(phase: u64, what: u64) -> u64
+    ensures { λ r. ⌜ r ≡ nextPhaseOf phase what ⌝ }
+{
+    if what == RESTS {
+        return phase;
+    }
+    what
 }
 
 // Why a run stops whose least value is f.
@@ -111,257 +250,106 @@ fn reason(ftol: f64, f: f64) -> u64
     TOLERANCE
 }
 
-// The end for this reason, or with restarts left a new simplex about the best point.
-fn rerun_or_end(restarts: u64, s: Simplex, why: u64) -> Simplex
-    ensures { λ r. ⌜ r ≡ rerunOrEnd restarts s why ⌝ }
+// The phase after the tests at the head of a round: size and spread, where a run that is done may be followed
+// by another; then max_iter, then max_fevals.
+fn verdict(fit: Fixed, done: bool, f: f64, rounds: u64, runs: u64, fevals: u64) -> u64
+    ensures { λ r. ⌜ r ≡ verdictOf fit done f rounds runs fevals ⌝ }
 {
-    let best = s.best;
-    let x = best.x;
-    let mut q = s;
-    if restarts <= s.runs {
-        q.phase = why;
-        return q;
-    }
-    q.phase = BUILDING;
-    q.at = 0;
-    q.runs = s.runs + 1;
-    q.x = x;
-    q
-}
-
-// A run is done.
-fn done(o: SimplexOptions, s: Simplex) -> Simplex
-    ensures { λ r. ⌜ r ≡ doneOf o s ⌝ }
-{
-    let first = s.v[0];
-    let why = reason(o.ftol, first.f);
-    rerun_or_end(o.restarts, s, why)
-}
-
-// The tests at the head of a round: size and spread, then max_iter, then max_fevals.
-fn tested(fit: Fixed, s: Simplex, fevals: u64) -> Simplex
-    requires { ⌜ fit .n ≤ 16 ⌝ }
-    ensures { λ r. ⌜ r ≡ testedOf fit s fevals ⌝ }
-{
-    let n = fit.n;
     let o = fit.options;
-    let v = s.v;
-    let rounds = s.rounds;
-    let mut q = s;
-    if vertices::converged(o, v, n) {
-        return done(o, s);
+    if done {
+        if o.restarts <= runs {
+            return reason(o.ftol, f);
+        }
+        return BUILDING;
     }
     if fit.iter <= rounds {
-        q.phase = ITERATIONS;
-        return q;
+        return ITERATIONS;
     }
     if fit.fevals <= fevals {
-        q.phase = FEVALS;
-        return q;
+        return FEVALS;
     }
-    reflect(n, s)
+    REFLECTED
 }
 
-// The head of a round, after `fevals` accepted values.
+// The head of a round, after `fevals` accepted values: the vertices in order, the best of all runs, and the
+// tests. A new simplex is built about the best point; a round begins with the reflected point.
 fn headed(fit: Fixed, s: Simplex, fevals: u64) -> Simplex
     requires { ⌜ fit .n ≤ 16 ⌝ }
     ensures { λ r. ⌜ r ≡ headedOf fit s fevals ⌝ }
 {
-    let q = ordered(fit.n, s);
-    tested(fit, q, fevals)
-}
-
-// The worst vertex gives way to u, and the round is over.
-fn replaced(fit: Fixed, s: Simplex, u: Vertex, fevals: u64) -> Simplex
-    requires { ⌜ fit .n ≤ 16 ⌝ }
-    ensures { λ r. ⌜ r ≡ replacedOf fit s u fevals ⌝ }
-{
     let n = fit.n;
-    let mut next = s;
-    next.v[n] = u;
-    headed(fit, next, fevals)
-}
-
-// The vertex of a new simplex in which coordinate i of the seed, the first vertex, is displaced.
-fn build(initial: f64, s: Simplex, i: usize) -> Simplex
-    requires { ⌜ i < 16 ⌝ }
-    ensures { λ r. ⌜ r ≡ buildOf initial s i ⌝ }
-{
-    let first = s.v[0];
-    let seed = first.x;
-    let x = vertices::corner(initial, seed, i);
     let mut q = s;
-    q.at = i + 1;
-    q.x = x;
+    let v = q.v;
+    let w = vertices::sorted(v, n);
+    q.v = w;
+    let first = q.v[0];
+    let old = q.best;
+    let best = vertices::better_of(first, old);
+    q.best = best;
+    let u = q.v;
+    let done = vertices::converged(fit.options, u, n);
+    let phase = verdict(fit, done, first.f, q.rounds, q.runs, fevals);
+    q.phase = phase;
+    if phase == BUILDING {
+        let x = best.x;
+        q.at = 0;
+        q.runs = q.runs + 1;
+        q.x = x;
+        return q;
+    }
+    if phase == REFLECTED {
+        let c = vertices::centroid(u, n);
+        let worst = q.v[n];
+        let y = worst.x;
+        let x = vector::towards(c, y, ALPHA, n);
+        q.rounds = q.rounds + 1;
+        q.cen = c;
+        q.x = x;
+        return q;
+    }
     q
-}
-
-// A simplex is built: refusal 20 where all its values are non-finite, in whichever run.
-fn settled(fit: Fixed, s: Simplex, fevals: u64) -> Simplex
-    requires { ⌜ fit .n ≤ 16 ⌝ }
-    ensures { λ r. ⌜ r ≡ settledOf fit s fevals ⌝ }
-{
-    let n = fit.n;
-    let v = s.v;
-    if vertices::any_finite(v, n + 1) {
-        return headed(fit, s, fevals);
-    }
-    let mut q = s;
-    q.phase = NOT_FINITE;
-    q
-}
-
-// The answer to a vertex of a new simplex.
-fn built(fit: Fixed, s: Simplex, f: f64, fevals: u64) -> Simplex
-    requires { ⌜ fit .n ≤ 16 ⌝ }
-    requires { ⌜ s .at ≤ fit .n ⌝ }
-    ensures { λ r. ⌜ r ≡ builtOf fit s f fevals ⌝ }
-{
-    let n = fit.n;
-    let o = fit.options;
-    let i = s.at;
-    let x = s.x;
-    let mut q = s;
-    q.v[i] = Vertex { x, f };
-    if i < n {
-        return build(o.step, q, i);
-    }
-    settled(fit, q, fevals)
-}
-
-// The answer to the reflected point.
-fn reflected(fit: Fixed, s: Simplex, f: f64, fevals: u64) -> Simplex
-    requires { ⌜ 0 < fit .n ⌝ }
-    requires { ⌜ fit .n ≤ 16 ⌝ }
-    ensures { λ r. ⌜ r ≡ reflectedOf fit s f fevals ⌝ }
-{
-    let n = fit.n;
-    let m = n - 1;
-    let o = fit.options;
-    let best = s.v[0];
-    let second = s.v[m];
-    let worst = s.v[n];
-    let x = s.x;
-    let refl = Vertex { x, f };
-    let mut q = s;
-    q.refl = refl;
-    if f < best.f {
-        return trial(n, q, EXPANDED, ALPHA * vertices::expansion(o, n));
-    }
-    if f < second.f {
-        return replaced(fit, q, refl, fevals);
-    }
-    if f < worst.f {
-        return trial(n, q, OUTSIDE, ALPHA * vertices::contraction(o, n));
-    }
-    trial(n, q, INSIDE, -vertices::contraction(o, n))
-}
-
-// The answer to the expanded point.
-fn expanded(fit: Fixed, s: Simplex, f: f64, fevals: u64) -> Simplex
-    requires { ⌜ fit .n ≤ 16 ⌝ }
-    ensures { λ r. ⌜ r ≡ expandedOf fit s f fevals ⌝ }
-{
-    let x = s.x;
-    let refl = s.refl;
-    if f < refl.f {
-        return replaced(fit, s, Vertex { x, f }, fevals);
-    }
-    replaced(fit, s, refl, fevals)
-}
-
-// Vertex i drawn to the best, and asked for.
-fn shrink(fit: Fixed, s: Simplex, i: usize) -> Simplex
-    requires { ⌜ fit .n ≤ 16 ⌝ }
-    requires { ⌜ i ≤ 16 ⌝ }
-    ensures { λ r. ⌜ r ≡ shrinkOf fit s i ⌝ }
-{
-    let n = fit.n;
-    let o = fit.options;
-    let best = s.v[0];
-    let old = s.v[i];
-    let b = best.x;
-    let w = old.x;
-    let x = vector::shrunk(b, w, vertices::reduction(o, n), n);
-    let mut q = s;
-    q.phase = SHRINKING;
-    q.at = i;
-    q.x = x;
-    q
-}
-
-// The answer to the outside contraction.
-fn outside(fit: Fixed, s: Simplex, f: f64, fevals: u64) -> Simplex
-    requires { ⌜ fit .n ≤ 16 ⌝ }
-    ensures { λ r. ⌜ r ≡ outsideOf fit s f fevals ⌝ }
-{
-    let x = s.x;
-    let refl = s.refl;
-    if f <= refl.f {
-        return replaced(fit, s, Vertex { x, f }, fevals);
-    }
-    shrink(fit, s, 1)
-}
-
-// The answer to the inside contraction.
-fn inside(fit: Fixed, s: Simplex, f: f64, fevals: u64) -> Simplex
-    requires { ⌜ fit .n ≤ 16 ⌝ }
-    ensures { λ r. ⌜ r ≡ insideOf fit s f fevals ⌝ }
-{
-    let n = fit.n;
-    let x = s.x;
-    let last = s.v[n];
-    if f < last.f {
-        return replaced(fit, s, Vertex { x, f }, fevals);
-    }
-    shrink(fit, s, 1)
-}
-
-// The answer to a vertex drawn to the best.
-fn shrinking(fit: Fixed, s: Simplex, f: f64, fevals: u64) -> Simplex
-    requires { ⌜ fit .n ≤ 16 ⌝ }
-    requires { ⌜ s .at ≤ fit .n ⌝ }
-    ensures { λ r. ⌜ r ≡ shrinkingOf fit s f fevals ⌝ }
-{
-    let n = fit.n;
-    let j = s.at;
-    let x = s.x;
-    let mut q = s;
-    q.v[j] = Vertex { x, f };
-    if j < n {
-        return shrink(fit, q, j + 1);
-    }
-    headed(fit, q, fevals)
 }
 
 // The value f for the open question, read as fits read values; it is the fevals-th that is accepted. A
-// fit that has ended stays as it is.
+// fit that has ended stays as it is. A simplex whose values are all non-finite is refused with 20.
 pub fn told(fit: Fixed, s: Simplex, f: f64, fevals: u64) -> Simplex
     requires { ⌜ 0 < fit .n ⌝ }
     requires { ⌜ fit .n ≤ 16 ⌝ }
     requires { ⌜ s .at ≤ fit .n ⌝ }
     ensures { λ r. ⌜ r ≡ toldOf fit s f fevals ⌝ }
 {
-    let phase = s.phase;
-    if phase == BUILDING {
-        return built(fit, s, f, fevals);
+    let n = fit.n;
+    let m = n - 1;
+    let mut q = s;
+    let x = q.x;
+    let here = Vertex { x, f };
+    let what = outcome(q.phase, q.at, n, f, q.v[0].f, q.v[m].f, q.v[n].f, q.refl.f);
+    let i = place(q.phase, q.at, n, what);
+    if q.phase == REFLECTED {
+        q.refl = here;
     }
-    if phase == REFLECTED {
-        return reflected(fit, s, f, fevals);
+    if what == KEEPS {
+        q.v[n] = q.refl;
     }
-    if phase == EXPANDED {
-        return expanded(fit, s, f, fevals);
+    if i < 17 {
+        q.v[i] = here;
     }
-    if phase == OUTSIDE {
-        return outside(fit, s, f, fevals);
+    if what == BUILT {
+        if !vertices::any_finite(q.v, n + 1) {
+            q.phase = NOT_FINITE;
+            return q;
+        }
     }
-    if phase == INSIDE {
-        return inside(fit, s, f, fevals);
+    if SHRINKING < what {
+        return headed(fit, q, fevals);
     }
-    if phase == SHRINKING {
-        return shrinking(fit, s, f, fevals);
-    }
-    s
+    q.at = next_at(q.phase, q.at, what);
+    let best = q.v[0];
+    let old = q.v[far(n, q.at, what)];
+    let y = next_point(fit.options, n, i, what, x, q.cen, best, old);
+    q.phase = next_phase(q.phase, what);
+    q.x = y;
+    q
 }
 
 // The start at x: the first vertex of the first simplex is asked for.
