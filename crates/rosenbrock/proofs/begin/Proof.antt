@@ -16,4 +16,5 @@ pub begin-spec : {M : Type 1} → statement M
 begin-spec =
     tie.close
     (tie.spec Inv-loop μ-loop
-    (λ c. search needs) (λ c κs. search needs) (λ c. search needs) (λ c. search needs) (λ c. search needs) (λ c. search needs) (λ c. search needs) (λ c. search needs))
+    (λ c. search needs) (λ c κs. search needs) (λ c. search needs) (λ c. search needs) (λ c. search needs)
+    (λ c. search needs) (λ c. search needs) (λ c. search needs))

@@ -14,7 +14,7 @@ unfolding mostOf
 most n t within bound = rw within bound
 
 abbrev Inv-loop : tie.InvT-loop
-Inv-loop job n gradients list₀ said₀ x₀ r₀ turns₀ at₀ list said x r turns at = (n ≤ 16) × (turns ≤ 100000) × (length list ≡ length list₀)
+Inv-loop job n gradients list₀ said₀ x₀ r₀ turns₀ at₀ list said x r turns at = (outsideOf n ≡ false) × (n ≤ 16) × (turns ≤ 100000) × (length list ≡ length list₀)
 
 abbrev μ-loop : tie.MeasureT-loop
 μ-loop job n gradients list₀ said₀ x₀ r₀ turns₀ at₀ list said x r turns at = 100000 - turns
@@ -23,4 +23,9 @@ pub rosenbrock-fit-spec : {M : Type 1} → statement M
 rosenbrock-fit-spec =
     tie.close
     (tie.spec Inv-loop μ-loop
-    (λ c κs. search needs) (λ c. search needs) (λ c κs. inside (sym (c .before .outside .ensures) ∙ c .if1 .left)) (λ c. (inside (sym (c .before .before .before .before .outside .ensures) ∙ c .before .before .before .if1 .left), zero-le, refl)) (λ c κs. search needs) (λ c κs. search needs) (λ c κs. search needs) (λ c. search needs) (λ c. most _ _ (sym (c .before .before .before .before .before .before .before .before .before .before .before .before .before .outside .ensures) ∙ c .before .before .before .before .before .before .before .before .before .before .before .before .if1 .left) (c .before .before .before .before .before .before .before .before .loop .inv .1)) (λ c κs. search needs) (λ c. search needs) (λ c. search needs) (λ c. search needs) (λ c. search needs) (λ c. most _ _ (sym (c .before .before .before .before .before .before .outside .ensures) ∙ c .before .before .before .before .before .if1 .left) (c .before .loop .inv .1)))
+    (λ c κs. search needs) (λ c. search needs) (λ c κs. inside (sym (c .before .outside .ensures) ∙ c .if1 .left))
+    (λ c. let e = sym (c .before .before .before .before .outside .ensures) ∙ c .before .before .before .if1 .left in (e, inside e, zero-le, refl))
+    (λ c κs. search needs) (λ c κs. search needs) (λ c κs. search needs) (λ c. search needs)
+    (λ c. most _ _ (c .before .before .before .before .before .before .before .before .loop .inv .0) (c .before .before .before .before .before .before .before .before .loop .inv .2))
+    (λ c κs. search needs) (λ c. search needs) (λ c. search needs) (λ c. search needs) (λ c. search needs)
+    (λ c. most _ _ (c .before .loop .inv .0) (c .before .loop .inv .2)))

@@ -17,4 +17,7 @@ pub rosenbrock-objective-spec : {M : Type 1} → statement M
 rosenbrock-objective-spec =
     tie.close
     (tie.spec Inv-loop μ-loop
-    (λ c κs. search needs) (λ c. search needs) (λ c κs. inside (sym (c .before .outside .ensures) ∙ c .if1 .left)) (λ c. (inside (sym (c .before .before .outside .ensures) ∙ c .before .if1 .left), c .begin .ensures)) (λ c. search needs) (λ c. search needs) (λ c κs. search needs) (λ c. search needs) (λ c. search needs) (λ c. search needs) (λ c. search needs) (λ c. search needs))
+    (λ c κs. search needs) (λ c. search needs) (λ c κs. inside (sym (c .before .outside .ensures) ∙ c .if1 .left))
+    (λ c. (inside (sym (c .before .before .outside .ensures) ∙ c .before .if1 .left), c .begin .ensures))
+    (λ c. search needs) (λ c. search needs) (λ c κs. search needs) (λ c. search needs) (λ c. search needs)
+    (λ c. search needs) (λ c. search needs) (λ c. search needs))

@@ -10,4 +10,7 @@ pub told-spec : {M : Type 1} → statement M
 told-spec =
     tie.close
     (tie.spec
-    (λ c κs. search needs) (λ c κs. search needs) (λ c κs. search needs) (λ c κs. search needs) (λ c κs. search needs) (λ c. search needs) (λ c. sym (length-take-le _ _ (omega (arith, c .before .before .before .before .words .ensures, c .before .before .before .count-of .ensures)))) (λ c κs. search needs) (λ c. search needs))
+    (λ c κs. search needs) (λ c κs. search needs) (λ c κs. search needs) (λ c κs. search needs) (λ c κs. search needs)
+    (λ c. search needs)
+    (λ c. sym (length-take-le _ _ (omega (arith, c .before .before .before .before .words .ensures, c .before .before .before .count-of .ensures))))
+    (λ c κs. search needs) (λ c. search needs))
