@@ -1,9 +1,11 @@
 // The same fits through the engine and through the Rust, on one machine in one go: nanoseconds of own work a question.
 // bench/run.sh builds it and runs it.
 //
-// main [ROUNDS]: the table. main SIDE PART JOB GRADIENTS N: one fit, or the objective's part in it, for instructions.sh.
+// main ROUNDS: the table of fits in one process. main ROUNDS FIT DRIVER: the table of fits over a pipe.
+// main SIDE PART JOB GRADIENTS N: one fit, or the objective's part in it, for instructions.sh.
 
 mod chain;
+mod pipe;
 mod sides;
 
 use sides::{asked, compared, engine_fit, engine_listed, engine_objective, rows, rust_fit, rust_objective, Row, JOBS};
@@ -34,9 +36,13 @@ fn calls(mut call: impl FnMut()) -> u64 {
 // rounds is taken, so that what else the machine does falls on none of them alone.
 fn measured(row: &Row, (values, slopes): (u64, u64), rounds: u64) -> [f64; 4] {
     let x = chain::start(row.n);
-    let ours = || drop(black_box(engine_fit(black_box(row), &mut [])));
-    let rust = || drop(black_box(rust_fit(black_box(row), black_box(&x))));
-    let part = |f: extern "C" fn(usize, bool, u64) -> f64| {
+    let ours = || {
+        black_box(engine_fit(black_box(row), &mut []));
+    };
+    let rust = || {
+        black_box(rust_fit(black_box(row), black_box(&x)));
+    };
+    let part = |f: fn(usize, bool, u64) -> f64| {
         black_box(f(black_box(row.n), black_box(false), values));
         black_box(f(black_box(row.n), black_box(true), slopes));
     };
@@ -73,17 +79,25 @@ fn table(rounds: u64) {
     }
 }
 
+// A name of its own, so that a profiler can be told to count in it alone.
+#[no_mangle]
+#[inline(never)]
+fn collected(call: &dyn Fn() -> f64) -> f64 {
+    black_box(call())
+}
+
 // One fit of a side, or the evaluations that its questions ask for; prints the count of questions.
 fn once(side: &str, part: &str, row: Row) {
     let (values, slopes) = asked(&engine_listed(&row), row.n);
     let x = chain::start(row.n);
+    let both = |f: fn(usize, bool, u64) -> f64| f(row.n, false, values) + f(row.n, true, slopes);
     match (side, part) {
-        ("ours", "fit") => drop(black_box(engine_fit(&row, &mut []))),
-        ("rust", "fit") => drop(black_box(rust_fit(&row, &x))),
-        ("ours", "objective") => drop(black_box(engine_objective(row.n, false, values) + engine_objective(row.n, true, slopes))),
-        ("rust", "objective") => drop(black_box(rust_objective(row.n, false, values) + rust_objective(row.n, true, slopes))),
+        ("ours", "fit") => collected(&|| engine_fit(&row, &mut []) as f64),
+        ("rust", "fit") => collected(&|| rust_fit(&row, &x)),
+        ("ours", "objective") => collected(&|| both(engine_objective)),
+        ("rust", "objective") => collected(&|| both(rust_objective)),
         _ => panic!("a side is ours or rust, a part fit or objective"),
-    }
+    };
     println!("{}", values + slopes);
 }
 
@@ -92,12 +106,12 @@ fn main() {
     let args: Vec<&str> = args.iter().map(String::as_str).collect();
     let number = |text: &str| text.parse::<u64>().expect("a number");
     match args[..] {
-        [] => table(50),
         [rounds] => table(number(rounds)),
+        [rounds, ours, rust] => pipe::table(&rows(), number(rounds), ours, rust),
         [side, part, job, gradients, n] => {
             let row = Row { job: number(job), gradients: gradients == "yes", n: number(n) as usize };
             once(side, part, row);
         }
-        _ => eprintln!("main [ROUNDS], or main SIDE PART JOB GRADIENTS N"),
+        _ => eprintln!("main ROUNDS, main ROUNDS FIT DRIVER, or main SIDE PART JOB GRADIENTS N"),
     }
 }

@@ -26,30 +26,21 @@ mod archive {
     }
 }
 
-// Names of their own, so that a profiler can be told to count inside of them alone.
-#[no_mangle]
-#[inline(never)]
-pub extern "C" fn engine_fit(row: &Row, list: &mut [f64]) -> u64 {
+pub fn engine_fit(row: &Row, list: &mut [f64]) -> u64 {
     unsafe { archive::rosenbrock_fit(row.job, row.n, row.gradients, list.as_mut_ptr(), list.len()) }
 }
 
-#[no_mangle]
-#[inline(never)]
-pub extern "C" fn engine_objective(n: usize, slope: bool, count: u64) -> f64 {
+pub fn engine_objective(n: usize, slope: bool, count: u64) -> f64 {
     unsafe { archive::rosenbrock_objective(n, slope, count) }
 }
 
-#[no_mangle]
-#[inline(never)]
-pub extern "C" fn rust_fit(row: &Row, x: &[f64]) -> f64 {
+pub fn rust_fit(row: &Row, x: &[f64]) -> f64 {
     let mut f = Chain { gradients: row.gradients };
     chain::fit(&mut f, row.job, x).f
 }
 
 // The Vec that a gradient comes in is the objective's: it is made and freed here too, and so is taken off.
-#[no_mangle]
-#[inline(never)]
-pub extern "C" fn rust_objective(n: usize, slope: bool, count: u64) -> f64 {
+pub fn rust_objective(n: usize, slope: bool, count: u64) -> f64 {
     let mut f = Chain { gradients: true };
     let mut x = chain::start(n);
     let mut last = 0.0;
