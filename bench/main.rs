@@ -2,7 +2,8 @@
 // bench/run.sh builds it and runs it.
 //
 // main ROUNDS: the table of fits in one process. main ROUNDS FIT DRIVER: the table of fits over a pipe.
-// main SIDE PART JOB GRADIENTS N: one fit, or the objective's part in it, for instructions.sh.
+// For instructions.sh, main SIDE PART JOB GRADIENTS N: one fit, or the objective's part in it; main lines JOB GRADIENTS N:
+// the lines that a program is given for it.
 
 mod chain;
 mod pipe;
@@ -105,13 +106,12 @@ fn main() {
     let args: Vec<String> = std::env::args().skip(1).collect();
     let args: Vec<&str> = args.iter().map(String::as_str).collect();
     let number = |text: &str| text.parse::<u64>().expect("a number");
+    let row = |job, gradients, n| Row { job: number(job), gradients: gradients == "yes", n: number(n) as usize };
     match args[..] {
         [rounds] => table(number(rounds)),
         [rounds, ours, rust] => pipe::table(&rows(), number(rounds), ours, rust),
-        [side, part, job, gradients, n] => {
-            let row = Row { job: number(job), gradients: gradients == "yes", n: number(n) as usize };
-            once(side, part, row);
-        }
-        _ => eprintln!("main ROUNDS, main ROUNDS FIT DRIVER, or main SIDE PART JOB GRADIENTS N"),
+        ["lines", job, gradients, n] => print!("{}", pipe::lines(&row(job, gradients, n))),
+        [side, part, job, gradients, n] => once(side, part, row(job, gradients, n)),
+        _ => eprintln!("main ROUNDS, main ROUNDS FIT DRIVER, main SIDE PART JOB GRADIENTS N, or main lines JOB GRADIENTS N"),
     }
 }

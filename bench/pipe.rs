@@ -49,6 +49,12 @@ fn talk(row: &Row) -> Talk {
     talk
 }
 
+// All lines that a program is given for a fit.
+pub fn lines(row: &Row) -> String {
+    let talk = talk(row);
+    talk.opening + &talk.given.concat()
+}
+
 // Nanoseconds from the first question to the end, a question. Every line is held to the one that is due.
 fn passed(program: &str, talk: &Talk) -> f64 {
     let mut child = Command::new(program).stdin(Stdio::piped()).stdout(Stdio::piped()).spawn().expect(program);
