@@ -1,0 +1,136 @@
+#!/usr/bin/env python3
+"""mutation.py run CRATE.. | alone COUNT CRATE.. | report CRATE..: every operator, comparison and constant of libraries, changed once.
+
+Run it at the repository's root after `rt check`. docs/MUTATION.md says what is changed, and how; no CRATE means every library.
+`run` tries what has no verdict yet, and goes on where an earlier run was cut. `alone` tries COUNT of the mutants once more,
+each by itself and from nothing, and those that stand. `report` prints the table, and each mutant that is not refused.
+"""
+import collections
+import pathlib
+import sys
+import time
+
+sys.path.insert(0, str(pathlib.Path(__file__).parent / "mutation"))
+import crate as crates  # noqa: E402
+import trials  # noqa: E402
+
+DOCUMENT = pathlib.Path("docs/MUTATION.md")
+
+
+def libraries():
+    """Every library that has code."""
+    names = [name for name in trials.dependencies() if pathlib.Path("crates", name, "src/lib.rt").exists()]
+    return [name for name in names if crates.Crate(name).sites]
+
+
+def run(name):
+    """Tries what is pending of a crate. The crate itself must be proved first."""
+    own = crates.Crate(name)
+    own.room.mkdir(parents=True, exist_ok=True)
+    faults = []
+    while pending := own.pending():
+        trials.fresh(name, own.room)
+        if not trials.run(name, own.room, "--incremental", str(own.room / "inc")).proved:
+            sys.exit(f"{name} is not proved as it is: {own.room}/log")
+        runs = own.slots(pending)
+        for k, chosen in enumerate(runs):
+            began = time.time()
+            found = own.try_together(chosen)
+            faults += found
+            print(f"{name}: run {k + 1} of {len(runs)}, {len(chosen)} mutants, {time.time() - began:.0f} s", *found, flush=True)
+    return faults
+
+
+def sampled(own, count):
+    """Count refused mutants of a crate, spread over its sites, and all that stand."""
+    best, _ = own.results()
+    known = [(site, best[site.key()]) for site in own.sites if site.key() in best]
+    refused = [pair for pair in known if pair[1]["verdict"] == crates.REFUSED]
+    stand = [pair for pair in known if pair[1]["verdict"] == crates.STANDS]
+    return [refused[k * len(refused) // count] for k in range(min(count, len(refused)))] + stand
+
+
+def alone(name, count):
+    """Tries a sample of a crate's mutants one by one and from nothing, and compares the verdicts and the reasons."""
+    own, faults = crates.Crate(name), []
+    where = own.room / "alone"
+    where.mkdir(parents=True, exist_ok=True)
+    sample = sampled(own, count)
+    for site, record in sample:
+        trials.fresh(name, where)
+        own.write(where, [(site, record["which"])])
+        said = trials.run(name, where)
+        verdict, reason = own.judged(said, site)
+        found = list(own.untouched(said, [(site, record["which"])]))
+        if (verdict, reason) != (record["verdict"], record["reason"]) or said.proved != (verdict == crates.STANDS):
+            found.append(f"{site.key()}: {record['verdict']} together, {verdict} alone: {reason}")
+        print(f"{site.key()}: {verdict}, {said.seconds:.0f} s", *found, flush=True)
+        faults += found
+    print(f"{name}: {len(sample)} alone, {len(faults)} faults", flush=True)
+    return faults
+
+
+def code(text):
+    return "`` " + text.replace("|", "\\|") + " ``"
+
+
+def listed():
+    """The rows of docs/MUTATION.md that name a mutant, as (function, line, changed line) to the reason."""
+    rows = {}
+    for line in DOCUMENT.read_text().split("\n") if DOCUMENT.exists() else []:
+        cells = [cell.strip() for cell in line.split(" | ")]
+        if len(cells) == 4 and cells[1].startswith("``"):
+            rows[cells[0].removeprefix("| "), cells[1], cells[2]] = cells[3].removesuffix("|").strip()
+    return rows
+
+
+def report(names):
+    """Prints the table by crate and a row for each mutant that is not refused for a fact. A fault: a mutant with no verdict, one
+    that is not refused and has no row with a reason in the document, a row of no such mutant."""
+    rows, faults, open_rows, sums = listed(), [], [], collections.Counter()
+    print("| Crate | functions | mutants | refused | shape alone | stand | seconds |\n|---|---|---|---|---|---|---|")
+    for name in names:
+        own = crates.Crate(name)
+        best, seconds = own.results()
+        count = collections.Counter({"functions": len(own.calls), "mutants": len(own.sites), "seconds": round(seconds)})
+        for site in own.sites:
+            record = best.get(site.key(), {"verdict": "no verdict", "which": 0})
+            count[record["verdict"]] += 1
+            if record["verdict"] != crates.REFUSED:
+                row = (site.function, *map(code, site.lines(own.texts[site.file], record["which"])))
+                open_rows.append((*row, rows.pop(row, "")))
+                faults += [] if open_rows[-1][3] and record["verdict"] != "no verdict" else [f"{site.key()}: {record['verdict']}"]
+        sums += count
+        print_counts(name, count)
+    print_counts("together", sums)
+    print("\n| Function | Line | Changed | Why |\n|---|---|---|---|")
+    for row in open_rows:
+        print("| " + " | ".join(row) + " |")
+    return faults + [f"a row of no mutant: {row}" for row in rows if row[0].split("::")[0] in names]
+
+
+def print_counts(name, count):
+    columns = ("functions", "mutants", crates.REFUSED, crates.SHAPE, crates.STANDS, "seconds")
+    print(f"| {name} | " + " | ".join(str(count[column]) for column in columns) + " |")
+
+
+def main():
+    words = sys.argv[1:]
+    if words[:1] == ["report"]:
+        faults = report(words[1:] or libraries())
+        for fault in faults:
+            print(fault, file=sys.stderr)
+        return 1 if faults else 0
+    if words[:1] == ["alone"]:
+        faults = [fault for name in words[2:] or libraries() for fault in alone(name, int(words[1]))]
+        print(f"{len(faults)} faults")
+        return 1 if faults else 0
+    if words[:1] == ["run"]:
+        faults = [fault for name in words[1:] or libraries() for fault in run(name)]
+        print(f"{len(faults)} faults")
+        return 1 if faults else 0
+    sys.exit(__doc__)
+
+
+if __name__ == "__main__":
+    sys.exit(main())

@@ -1,0 +1,244 @@
+"""The sites of a file of Rattle: each operator, comparison and constant of its functions' bodies, and what it is changed to.
+
+Left alone: comments, contracts, `use` items, types (with the lengths of arrays), casts, field numbers.
+"""
+import dataclasses
+import re
+
+TOKEN = re.compile(
+    r"""(?P<space>\s+|//[^\n]*)
+    |(?P<bytes>b"(?:\\.|[^"\\])*")
+    |(?P<byte>b'(?:\\x[0-9a-fA-F]{2}|\\.|[^'\\])')
+    |(?P<life>'\w+)
+    |(?P<float>\d[\d_]*(?:\.\d[\d_]*(?:[eE][+-]?\d+)?|[eE][+-]?\d+)(?:f32|f64)?)
+    |(?P<int>0x[\da-fA-F_]+|\d[\d_]*)(?P<suffix>(?:u8|u16|u32|u64|usize|i8|i16|i32|i64|isize)?)
+    |(?P<word>[^\W\d]\w*)
+    |(?P<op>\.\.=|<<=|>>=|::|->|=>|==|!=|<=|>=|&&|\|\||\+=|-=|\*=|/=|%=|\^=|&=|\|=|<<|>>|\.\.|.)""",
+    re.VERBOSE | re.DOTALL,
+)
+# For each operator its changes, in the order in which they are tried: the second is for a site whose first change the front
+# end refuses, or the prover refuses for the shape of its proof alone.
+BINARY = {
+    "+": ["-", "*"], "-": ["+", "*"], "*": ["/", "+"], "/": ["*", "+"], "%": ["/", "*"],
+    "<<": [">>"], ">>": ["<<"], "&": ["|", "^"], "|": ["&", "^"], "^": ["&", "|"],
+    "<": ["<=", ">"], "<=": ["<", ">="], ">": [">=", "<"], ">=": [">", "<="], "==": ["!="], "!=": ["=="],
+    "&&": ["||"], "||": ["&&"], "..": ["..="], "..=": [".."],
+    "+=": ["-=", "*="], "-=": ["+=", "*="], "*=": ["/=", "+="], "/=": ["*=", "+="], "%=": ["/=", "*="],
+    "<<=": [">>="], ">>=": ["<<="], "&=": ["|=", "^="], "|=": ["&=", "^="], "^=": ["&=", "|="],
+}  # fmt: skip
+UNARY = {"-": [""], "!": [""]}
+KEYWORDS = {"return", "if", "while", "in", "else", "match", "let", "mut", "loop", "for", "break"}
+CLAUSES = {"requires", "ensures", "ghost"}
+ESCAPES = {"n": 10, "r": 13, "t": 9, "\\": 92, "0": 0, "'": 39, '"': 34}
+
+
+@dataclasses.dataclass
+class Token:
+    kind: str
+    text: str
+    at: int
+
+
+@dataclasses.dataclass
+class Site:
+    """A place of a file that is changed. `items` are lines that a change needs behind the file's last, `shown` is what a reader
+    is shown for the change where that is not what stands in the file."""
+
+    file: str
+    line: int
+    column: int
+    function: str
+    start: int
+    end: int
+    old: str
+    news: list
+    items: list
+    shown: str = ""
+
+    def key(self):
+        return f"{self.file}:{self.line}:{self.column} {self.function} {self.old}"
+
+    def lines(self, text, which):
+        """The line of the site, as it is and with the change."""
+        begin, end = text.rfind("\n", 0, self.start) + 1, text.find("\n", self.end)
+        after = text[begin : self.start] + (self.shown or self.news[which]) + text[self.end : end]
+        return text[begin:end].strip(), after.strip()
+
+
+def tokens(text):
+    out = []
+    for found in TOKEN.finditer(text):
+        kind = found.lastgroup if found.lastgroup != "suffix" else "int"
+        if kind != "space":
+            out.append(Token(kind, found[0], found.start()))
+    return out
+
+
+def byte_of(text):
+    """The number of the byte that b'..' is."""
+    inner = text[2:-1]
+    if not inner.startswith("\\"):
+        return ord(inner)
+    return int(inner[2:], 16) if inner[1] == "x" else ESCAPES[inner[1]]
+
+
+def other_bytes(text):
+    """A byte string with its last byte changed."""
+    parts = re.findall(r"\\x[0-9a-fA-F]{2}|\\.|.", text[2:-1], re.DOTALL)
+    parts[-1] = f"\\x{byte_of(f'b{chr(39)}{parts[-1]}{chr(39)}') ^ 1:02x}"
+    return f'b"{"".join(parts)}"'
+
+
+def literal_changes(token):
+    """What a literal is changed to: k to k + 1, 0.0 to 1.0, x to 2x, true to false."""
+    if token.kind == "byte":
+        return [f"{(byte_of(token.text) + 1) % 256}u8"]
+    if token.kind == "bytes":
+        return [other_bytes(token.text)]
+    if token.kind == "float":
+        value = float(token.text.replace("_", "").removesuffix("f64"))
+        return [repr(2 * value if value else 1.0)]
+    if token.kind == "int":
+        digits = re.match(r"0x[\da-fA-F_]+|[\d_]+", token.text)[0]
+        value, suffix = int(digits.replace("_", ""), 0), token.text[len(digits) :]
+        form = "{:#x}{}" if digits.startswith("0x") else "{}{}"
+        return [form.format(k, suffix) for k in (value + 1, value - 1) if k >= 0]
+    return {"true": ["false"], "false": ["true"]}.get(token.text)
+
+
+def is_literal(toks, i):
+    return (toks[i].kind in ("byte", "bytes", "float", "int") or toks[i].text in ("true", "false")) and toks[i - 1].text != "."
+
+
+def close_of(toks, i):
+    """The index of the bracket that closes the one at i."""
+    depth = 0
+    while True:
+        depth += {"(": 1, "[": 1, "{": 1, ")": -1, "]": -1, "}": -1}.get(toks[i].text, 0)
+        if depth == 0:
+            return i
+        i += 1
+
+
+def after_type(toks, i):
+    """The index of the `=` or `;` behind the type of a `let` or a `const` that begins at i."""
+    while toks[i].text not in ("=", ";"):
+        i = close_of(toks, i) + 1
+    return i
+
+
+def items_of(toks):
+    """The constants of a file, name to (first token of its value, the one behind it, of its type), and its functions' bodies."""
+    constants, bodies, i = {}, [], 0
+    while i < len(toks):
+        text = toks[i].text
+        if text in ("impl", "trait", "static", "macro_rules"):
+            raise ValueError(f"an item of a kind that is not known: {text}")
+        if text == "const":
+            value = after_type(toks, i + 3) + 1
+            end = next(k for k in range(value, len(toks)) if toks[k].text == ";" and _flat(toks, value, k))
+            constants[toks[i + 1].text] = (value, end, i + 3)
+            i = end
+        elif text == "fn":
+            name, i = toks[i + 1].text, i + 2
+            while toks[i].text != "{":
+                i = close_of(toks, i + 1 if toks[i].text in CLAUSES else i) + 1
+            bodies.append((name, i, close_of(toks, i)))
+            i = bodies[-1][2]
+        elif text == "{":
+            i = close_of(toks, i)
+        i += 1
+    return constants, bodies
+
+
+def _flat(toks, start, end):
+    return sum({"[": 1, "(": 1, "]": -1, ")": -1}.get(t.text, 0) for t in toks[start:end]) == 0
+
+
+def body_places(toks, start, end):
+    """The indices of a body's tokens that are code: not types, not lengths of arrays, not casts."""
+    i, open_brackets = start, []
+    while i < end:
+        text = toks[i].text
+        if text in "([{":
+            open_brackets.append(text)
+        elif text in ")]}":
+            open_brackets.pop()
+        if text == "as":
+            i += 2
+        elif text == ":" and toks[i - 1].kind == "word" and toks[i - 2].text in ("let", "mut"):
+            i = after_type(toks, i + 1)
+        elif text == ";" and open_brackets[-1] == "[":
+            while toks[i].text != "]":
+                i += 1
+        else:
+            yield i
+            i += 1
+
+
+def operand_before(toks, i):
+    before = toks[i - 1]
+    return before.text in (")", "]") or before.kind in ("int", "float", "byte") or (before.kind == "word" and before.text not in KEYWORDS)
+
+
+def constant_uses(text, toks, constants, name, number):
+    """For each literal of a constant: what it is, the name of a constant with it changed, that constant's item and value."""
+    value, end, kind = constants[name]
+    for k in range(value, end):
+        if is_literal(toks, k):
+            for new in literal_changes(toks[k])[:1]:
+                other = f"{name}_{number}_{k - value}"
+                head, tail = text[toks[kind].at : toks[k].at], text[toks[k].at + len(toks[k].text) : toks[end].at]
+                shown = text[toks[value].at : toks[k].at] + new + tail
+                yield f"{toks[k].text} of {name} at {k - value}", other, f"const {other}: {head}{new}{tail};", shown
+
+
+def sites_of(file, prefix, text):
+    """Every site of a file, whose functions' names begin with prefix."""
+    toks = tokens(text)
+    constants, bodies = items_of(toks)
+    out = []
+
+    def add(i, function, old, news, items=(), shown="", end=None):
+        at, end = toks[i].at, end or toks[i].at + len(toks[i].text)
+        line, column = text.count("\n", 0, at) + 1, at - text.rfind("\n", 0, at)
+        out.append(Site(file, line, column, function, at, end, old, list(news), list(items), shown))
+
+    for name, start, end in bodies:
+        function = prefix + name
+        for i in body_places(toks, start, end):
+            token = toks[i]
+            if is_literal(toks, i):
+                add(i, function, token.text, literal_changes(token))
+            elif token.kind == "word" and token.text in constants and toks[i - 1].text not in (".", "::"):
+                for old, other, item, shown in constant_uses(text, toks, constants, token.text, len(out)):
+                    add(i, function, old, [other], [item], shown)
+            elif token.text == "MAX" and toks[i - 1].text == "::":
+                if toks[i - 2].text != "u64":
+                    raise ValueError(f"{file}: {toks[i - 2].text}::MAX")
+                add(i - 2, function, "u64::MAX", ["0xffff_ffff_ffff_fffe"], end=token.at + 3)
+            elif token.kind == "op":
+                changes = BINARY.get(token.text) if operand_before(toks, i) or token.text == ".." else UNARY.get(token.text)
+                if changes:
+                    add(i, function, token.text, changes)
+            elif token.kind == "word" and re.fullmatch(r"[A-Z][A-Z0-9_]+", token.text):
+                raise ValueError(f"{file}: {token.text} is no constant of the file")
+    return out
+
+
+def calls_of(prefix, text):
+    """Each function of a file with the names that its body calls."""
+    toks = tokens(text)
+    return {
+        prefix + name: {toks[i].text for i in range(start, end) if toks[i].kind == "word" and toks[i + 1].text == "("}
+        for name, start, end in items_of(toks)[1]
+    }
+
+
+def changed(text, chosen):
+    """The text of a file with each (site, index of its change) of it made."""
+    items = []
+    for site, which in sorted(chosen, key=lambda pair: -pair[0].start):
+        text = text[: site.start] + site.news[which] + text[site.end :]
+        items += site.items
+    return text + "".join(item + "\n" for item in items)
