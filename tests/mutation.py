@@ -10,6 +10,7 @@ import pathlib
 import sys
 import time
 
+sys.dont_write_bytecode = True
 sys.path.insert(0, str(pathlib.Path(__file__).parent / "mutation"))
 import crate as crates  # noqa: E402
 import trials  # noqa: E402
@@ -29,7 +30,7 @@ def run(name):
     own.room.mkdir(parents=True, exist_ok=True)
     faults = []
     while pending := own.pending():
-        trials.fresh(name, own.room)
+        own.write(own.room, [])
         if not trials.run(name, own.room, "--incremental", str(own.room / "inc")).proved:
             sys.exit(f"{name} is not proved as it is: {own.room}/log")
         runs = own.slots(pending)
@@ -57,7 +58,6 @@ def alone(name, count):
     where.mkdir(parents=True, exist_ok=True)
     sample = sampled(own, count)
     for site, record in sample:
-        trials.fresh(name, where)
         own.write(where, [(site, record["which"])])
         said = trials.run(name, where)
         verdict, reason = own.judged(said, site)

@@ -4,6 +4,7 @@ import functools
 import hashlib
 import json
 import pathlib
+import re
 
 import sites
 import trials
@@ -50,7 +51,8 @@ class Crate:
                     if "site" in record:
                         old = best.get(record["site"], record)
                         kept = old if record["verdict"] == FRONT else record
-                        best[record["site"]] = {**kept, "tried": record["which"] + 1}
+                        need = record["reason"] if record["verdict"] == SHAPE else old.get("need", "")
+                        best[record["site"]] = {**kept, "tried": record["which"] + 1, "need": need}
         return best, seconds
 
     def record(self, **fields):
@@ -63,7 +65,7 @@ class Crate:
         out = []
         for site in self.sites:
             record = best.get(site.key(), {"verdict": FRONT, "tried": 0})
-            if record["verdict"] in (SHAPE, FRONT) and record["tried"] < len(site.news):
+            if record["verdict"] in (SHAPE, FRONT) and record["tried"] < site.tries():
                 out.append((site, record["tried"]))
         return out
 
@@ -95,8 +97,16 @@ class Crate:
         return [runs[k] for k in sorted(runs)]
 
     def write(self, where, chosen):
+        """The changes into a copy of the crate. A need that is renamed is named by the reason of the last refusal."""
+        trials.fresh(self.name, where)
         for file, text in self.texts.items():
             (where / "src" / file).write_text(sites.changed(text, [trial for trial in chosen if trial[0].file == file]))
+        best, _ = self.results()
+        for site, which in chosen:
+            need = re.search(r"`tie\.Need-([\w-]+)`", best.get(site.key(), {}).get("need", ""))
+            if which >= len(site.news) and need:
+                path = where / "proofs" / "/".join(site.function.split("::")[1:]) / "Proof.antt"
+                path.write_text(sites.renamed(path.read_text(), need[1], site))
 
     def untouched(self, said, chosen):
         """What the prover said against a function that was not changed: nothing but that it calls one that was."""
@@ -134,7 +144,7 @@ class Crate:
         site, which = trial
         self.record(
             site=site.key(), function=site.function, file=site.file, line=site.line, old=site.old, which=which,
-            new=site.items[0] if site.items else site.news[which], verdict=verdict, reason=reason, together=runs,
+            new=site.items[0] if site.items else site.new(which), verdict=verdict, reason=reason, together=runs,
         )  # fmt: skip
 
     def try_together(self, chosen):

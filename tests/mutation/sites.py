@@ -26,7 +26,9 @@ BINARY = {
     "+=": ["-=", "*="], "-=": ["+=", "*="], "*=": ["/=", "+="], "/=": ["*=", "+="], "%=": ["/=", "*="],
     "<<=": [">>="], ">>=": ["<<="], "&=": ["|=", "^="], "|=": ["&=", "^="], "^=": ["&=", "|="],
 }  # fmt: skip
-UNARY = {"-": [""], "!": [""]}
+UNARY = {"-": [""], "!": ["", "!!"]}
+# How the prover's names of needs begin, by operator.
+NEEDS = {"+": "add", "-": "sub", "*": "mul", "/": "div", "%": "rem"}
 KEYWORDS = {"return", "if", "while", "in", "else", "match", "let", "mut", "loop", "for", "break"}
 CLAUSES = {"requires", "ensures", "ghost"}
 ESCAPES = {"n": 10, "r": 13, "t": 9, "\\": 92, "0": 0, "'": 39, '"': 34}
@@ -58,10 +60,17 @@ class Site:
     def key(self):
         return f"{self.file}:{self.line}:{self.column} {self.function} {self.old}"
 
+    def tries(self):
+        """How often the site may be tried. Behind the changes comes the first once more, with the need renamed in the proof."""
+        return len(self.news) + (self.old[0] in NEEDS and len(self.news) > 1)
+
+    def new(self, which):
+        return self.news[which % len(self.news)]
+
     def lines(self, text, which):
         """The line of the site, as it is and with the change."""
         begin, end = text.rfind("\n", 0, self.start) + 1, text.find("\n", self.end)
-        after = text[begin : self.start] + (self.shown or self.news[which]) + text[self.end : end]
+        after = text[begin : self.start] + (self.shown or self.new(which)) + text[self.end : end]
         return text[begin:end].strip(), after.strip()
 
 
@@ -235,10 +244,17 @@ def calls_of(prefix, text):
     }
 
 
+def renamed(proof, need, site):
+    """A proof with a need of the site's operator under the name that it has with the first change."""
+    base = re.sub(r"-\d+$", "", need).removeprefix(NEEDS[site.old[0]] + "-")
+    name = f"{NEEDS[site.news[0][0]]}-{base}"
+    return re.sub(rf"(?<![\w-])(Need-)?{re.escape(need)}(?![\w-])", lambda found: (found[1] or "") + name, proof)
+
+
 def changed(text, chosen):
     """The text of a file with each (site, index of its change) of it made."""
     items = []
     for site, which in sorted(chosen, key=lambda pair: -pair[0].start):
-        text = text[: site.start] + site.news[which] + text[site.end :]
+        text = text[: site.start] + site.new(which) + text[site.end :]
         items += site.items
     return text + "".join(item + "\n" for item in items)
