@@ -25,20 +25,17 @@ def libraries():
 
 
 def run(name):
-    """Tries what is pending of a crate. The crate itself must be proved first."""
-    own = crates.Crate(name)
+    """Tries what is pending of a crate, once each function's unchanged copy is proved."""
+    own, faults = crates.Crate(name), []
     own.room.mkdir(parents=True, exist_ok=True)
-    faults = []
+    if own.pending() and (unproved := own.control()):
+        sys.exit(f"{name}: an unchanged copy of a function is not proved: {own.room}/log: {unproved}")
     while pending := own.pending():
-        own.write(own.room, [])
-        if not trials.run(name, own.room, "--incremental", str(own.room / "inc")).proved:
-            sys.exit(f"{name} is not proved as it is: {own.room}/log")
-        runs = own.slots(pending)
-        for k, chosen in enumerate(runs):
-            began = time.time()
+        for k in range(0, len(pending), crates.TOGETHER):
+            began, chosen = time.time(), pending[k : k + crates.TOGETHER]
             found = own.try_together(chosen)
             faults += found
-            print(f"{name}: run {k + 1} of {len(runs)}, {len(chosen)} mutants, {time.time() - began:.0f} s", *found, flush=True)
+            print(f"{name}: {k + len(chosen)} of {len(pending)} mutants, {time.time() - began:.0f} s", *found, flush=True)
     return faults
 
 
@@ -60,12 +57,10 @@ def alone(name, count):
     for site, record in sample:
         own.write(where, [(site, record["which"])])
         said = trials.run(name, where)
-        verdict, reason = own.judged(said, site)
-        found = list(own.untouched(said, [(site, record["which"])]))
-        if (verdict, reason) != (record["verdict"], record["reason"]) or said.proved != (verdict == crates.STANDS):
-            found.append(f"{site.key()}: {record['verdict']} together, {verdict} alone: {reason}")
-        print(f"{site.key()}: {verdict}, {said.seconds:.0f} s", *found, flush=True)
-        faults += found
+        verdict, reason = own.judged(said, site.function)
+        same = (verdict, said.proved) == (record["verdict"], verdict == crates.STANDS)
+        faults += [] if same else [f"{site.key()}: {record['verdict']} together, {verdict} alone: {reason}"]
+        print(f"{site.key()}: {verdict}, {said.seconds:.0f} s{'' if same else ', a fault'}", flush=True)
     print(f"{name}: {len(sample)} alone, {len(faults)} faults", flush=True)
     return faults
 
@@ -92,7 +87,7 @@ def report(names):
     for name in names:
         own = crates.Crate(name)
         best, seconds = own.results()
-        count = collections.Counter({"functions": len(own.calls), "mutants": len(own.sites), "seconds": round(seconds)})
+        count = collections.Counter({"functions": len(own.functions), "mutants": len(own.sites), "seconds": round(seconds)})
         for site in own.sites:
             record = best.get(site.key(), {"verdict": "no verdict", "which": 0})
             count[record["verdict"]] += 1

@@ -26,7 +26,7 @@ BINARY = {
     "+=": ["-=", "*="], "-=": ["+=", "*="], "*=": ["/=", "+="], "/=": ["*=", "+="], "%=": ["/=", "*="],
     "<<=": [">>="], ">>=": ["<<="], "&=": ["|=", "^="], "|=": ["&=", "^="], "^=": ["&=", "|="],
 }  # fmt: skip
-UNARY = {"-": [""], "!": ["", "!!"]}
+UNARY = {"-": [""], "!": ["", "!!"], "..": ["..=", "1.."]}
 # How the prover's names of needs begin, by operator.
 NEEDS = {"+": "add", "-": "sub", "*": "mul", "/": "div", "%": "rem"}
 KEYWORDS = {"return", "if", "while", "in", "else", "match", "let", "mut", "loop", "for", "break"}
@@ -44,7 +44,7 @@ class Token:
 @dataclasses.dataclass
 class Site:
     """A place of a file that is changed. `items` are lines that a change needs behind the file's last, `shown` is what a reader
-    is shown for the change where that is not what stands in the file."""
+    is shown for the change where that is not what stands in the file, `item` is where the function begins, its name, its end."""
 
     file: str
     line: int
@@ -55,7 +55,8 @@ class Site:
     old: str
     news: list
     items: list
-    shown: str = ""
+    shown: str
+    item: tuple
 
     def key(self):
         return f"{self.file}:{self.line}:{self.column} {self.function} {self.old}"
@@ -149,10 +150,10 @@ def items_of(toks):
             constants[toks[i + 1].text] = (value, end, i + 3)
             i = end
         elif text == "fn":
-            name, i = toks[i + 1].text, i + 2
+            name, first, i = toks[i + 1].text, i - (toks[i - 1].text == "pub"), i + 2
             while toks[i].text != "{":
                 i = close_of(toks, i + 1 if toks[i].text in CLAUSES else i) + 1
-            bodies.append((name, i, close_of(toks, i)))
+            bodies.append((name, i, close_of(toks, i), first))
             i = bodies[-1][2]
         elif text == "{":
             i = close_of(toks, i)
@@ -206,28 +207,28 @@ def sites_of(file, prefix, text):
     """Every site of a file, whose functions' names begin with prefix."""
     toks = tokens(text)
     constants, bodies = items_of(toks)
-    out = []
+    out, item = [], ()
 
     def add(i, function, old, news, items=(), shown="", end=None):
         at, end = toks[i].at, end or toks[i].at + len(toks[i].text)
         line, column = text.count("\n", 0, at) + 1, at - text.rfind("\n", 0, at)
-        out.append(Site(file, line, column, function, at, end, old, list(news), list(items), shown))
+        out.append(Site(file, line, column, function, at, end, old, list(news), list(items), shown, item))
 
-    for name, start, end in bodies:
-        function = prefix + name
+    for name, start, end, first in bodies:
+        function, item = prefix + name, item_of(toks, first, end)
         for i in body_places(toks, start, end):
             token = toks[i]
             if is_literal(toks, i):
                 add(i, function, token.text, literal_changes(token))
             elif token.kind == "word" and token.text in constants and toks[i - 1].text not in (".", "::"):
-                for old, other, item, shown in constant_uses(text, toks, constants, token.text, len(out)):
-                    add(i, function, old, [other], [item], shown)
+                for old, other, constant, shown in constant_uses(text, toks, constants, token.text, len(out)):
+                    add(i, function, old, [other], [constant], shown)
             elif token.text == "MAX" and toks[i - 1].text == "::":
                 if toks[i - 2].text != "u64":
                     raise ValueError(f"{file}: {toks[i - 2].text}::MAX")
                 add(i - 2, function, "u64::MAX", ["0xffff_ffff_ffff_fffe"], end=token.at + 3)
             elif token.kind == "op":
-                changes = BINARY.get(token.text) if operand_before(toks, i) or token.text == ".." else UNARY.get(token.text)
+                changes = (BINARY if operand_before(toks, i) else UNARY).get(token.text)
                 if changes:
                     add(i, function, token.text, changes)
             elif token.kind == "word" and re.fullmatch(r"[A-Z][A-Z0-9_]+", token.text):
@@ -235,13 +236,33 @@ def sites_of(file, prefix, text):
     return out
 
 
-def calls_of(prefix, text):
-    """Each function of a file with the names that its body calls."""
+def item_of(toks, first, end):
+    """Where a function begins, where its name stands, and where it ends."""
+    return toks[first].at, toks[first + 1 + (toks[first].text == "pub")].at, toks[end].at + 1
+
+
+def functions_of(prefix, text):
+    """Each function of a file, and its item."""
     toks = tokens(text)
-    return {
-        prefix + name: {toks[i].text for i in range(start, end) if toks[i].kind == "word" and toks[i + 1].text == "("}
-        for name, start, end in items_of(toks)[1]
-    }
+    return {prefix + name: item_of(toks, first, end) for name, _, end, first in items_of(toks)[1]}
+
+
+def copied(text, function, item, copy, site=None, which=0):
+    """The text of a function under the name of its copy, with a change of a site in it."""
+    begin, name, end = item
+    head = text[begin:name] + copy.split("::")[-1]
+    name += len(function.split("::")[-1])
+    if site is None:
+        return head + text[name:end]
+    return head + text[name : site.start] + site.new(which) + text[site.end : end]
+
+
+def copied_proof(proof, function, copy):
+    """The proof of a function, as that of its copy."""
+    old, new = (".".join(name.split("::")[1:]) for name in (function, copy))
+    spec, other = (name.split("::")[-1].replace("_", "-") + "-spec" for name in (function, copy))
+    proof = re.sub(rf"(?<=·proofs\.proofs\.){re.escape(old)}(?=[.\s])", new, proof)
+    return re.sub(rf"(?<![\w-]){re.escape(spec)}(?![\w-])", other, proof)
 
 
 def renamed(proof, need, site):
