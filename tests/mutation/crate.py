@@ -107,7 +107,7 @@ class Crate:
             site, which = trial
             text = sites.copied(self.texts[site.file], site.function, site.item, self.copy_name(trial), site, which)
             proof = self.proof(site, which) if proof_of(where, site.function).exists() else None
-            text = "\n".join([*site.items, text])
+            text = "\n".join([*site.needed(which), text])
             lines.append(self.add(where, site.file, text, site.function, self.copy_name(trial), proof))
         return lines
 
@@ -139,7 +139,7 @@ class Crate:
         site, which = trial
         self.record(
             site=site.key(), function=site.function, file=site.file, line=site.line, old=site.old, which=which,
-            new=site.items[0] if site.items else site.new(which), verdict=verdict, reason=reason,
+            new="".join(site.needed(which)) or site.new(which), verdict=verdict, reason=reason,
         )  # fmt: skip
 
     def control(self):

@@ -43,8 +43,8 @@ class Token:
 
 @dataclasses.dataclass
 class Site:
-    """A place of a file that is changed. `items` are lines that a change needs behind the file's last, `shown` is what a reader
-    is shown for the change where that is not what stands in the file, `item` is where the function begins, its name, its end."""
+    """A place of a file that is changed. `constants` has, for a change that is a constant's name, that constant's item and its
+    value; `item` is where the function begins, its name, its end."""
 
     file: str
     line: int
@@ -54,8 +54,7 @@ class Site:
     end: int
     old: str
     news: list
-    items: list
-    shown: str
+    constants: dict
     item: tuple
 
     def key(self):
@@ -68,10 +67,15 @@ class Site:
     def new(self, which):
         return self.news[which % len(self.news)]
 
+    def needed(self, which):
+        """The lines that a change needs behind the file's last."""
+        return [self.constants[self.new(which)][0]] if self.constants else []
+
     def lines(self, text, which):
         """The line of the site, as it is and with the change."""
         begin, end = text.rfind("\n", 0, self.start) + 1, text.find("\n", self.end)
-        after = text[begin : self.start] + (self.shown or self.new(which)) + text[self.end : end]
+        new = self.constants[self.new(which)][1] if self.constants else self.new(which)
+        after = text[begin : self.start] + new + text[self.end : end]
         return text[begin:end].strip(), after.strip()
 
 
@@ -192,15 +196,16 @@ def operand_before(toks, i):
 
 
 def constant_uses(text, toks, constants, name, number):
-    """For each literal of a constant: what it is, the name of a constant with it changed, that constant's item and value."""
+    """For each literal of a constant: what it is, and by the names of constants with it changed their items and values."""
     value, end, kind = constants[name]
     for k in range(value, end):
         if is_literal(toks, k):
-            for new in literal_changes(toks[k])[:1]:
-                other = f"{name}_{number}_{k - value}"
-                head, tail = text[toks[kind].at : toks[k].at], text[toks[k].at + len(toks[k].text) : toks[end].at]
-                shown = text[toks[value].at : toks[k].at] + new + tail
-                yield f"{toks[k].text} of {name} at {k - value}", other, f"const {other}: {head}{new}{tail};", shown
+            head, tail = text[toks[value].at : toks[k].at], text[toks[k].at + len(toks[k].text) : toks[end].at]
+            changes = [head + new + tail for new in literal_changes(toks[k])]
+            names = [f"{name}_{number}_{k - value}_{j}" for j in range(len(changes))]
+            type_ = text[toks[kind].at : toks[value].at]
+            items = {other: (f"const {other}: {type_}{new};", new) for other, new in zip(names, changes)}
+            yield f"{toks[k].text} of {name} at {k - value}", items
 
 
 def sites_of(file, prefix, text):
@@ -209,10 +214,10 @@ def sites_of(file, prefix, text):
     constants, bodies = items_of(toks)
     out, item = [], ()
 
-    def add(i, function, old, news, items=(), shown="", end=None):
+    def add(i, function, old, news, constants=None, end=None):
         at, end = toks[i].at, end or toks[i].at + len(toks[i].text)
         line, column = text.count("\n", 0, at) + 1, at - text.rfind("\n", 0, at)
-        out.append(Site(file, line, column, function, at, end, old, list(news), list(items), shown, item))
+        out.append(Site(file, line, column, function, at, end, old, list(news), constants or {}, item))
 
     for name, start, end, first in bodies:
         function, item = prefix + name, item_of(toks, first, end)
@@ -221,8 +226,8 @@ def sites_of(file, prefix, text):
             if is_literal(toks, i):
                 add(i, function, token.text, literal_changes(token))
             elif token.kind == "word" and token.text in constants and toks[i - 1].text not in (".", "::"):
-                for old, other, constant, shown in constant_uses(text, toks, constants, token.text, len(out)):
-                    add(i, function, old, [other], [constant], shown)
+                for old, changes in constant_uses(text, toks, constants, token.text, len(out)):
+                    add(i, function, old, changes, changes)
             elif token.text == "MAX" and toks[i - 1].text == "::":
                 if toks[i - 2].text != "u64":
                     raise ValueError(f"{file}: {toks[i - 2].text}::MAX")
@@ -277,5 +282,5 @@ def changed(text, chosen):
     items = []
     for site, which in sorted(chosen, key=lambda pair: -pair[0].start):
         text = text[: site.start] + site.new(which) + text[site.end :]
-        items += site.items
+        items += site.needed(which)
     return text + "".join(item + "\n" for item in items)

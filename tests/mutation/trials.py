@@ -11,8 +11,9 @@ import time
 ROOM = pathlib.Path("target/mutation")
 # An error that only says that something else was refused.
 FOLLOWS = re.compile(r"was not admitted \(it has holes or undetermined implicits, or was rejected\), so this cannot be checked")
-# An error that only says that the proof file no longer fits the code, as tests/must_fail.py has it.
-SHAPE = re.compile(r"has no `Need-[^`]*` that can be named from here|record `[^`]+\.Lts\.[^`]+`( has no field|$)")
+# An error that only says that the proof file no longer fits the code, as tests/must_fail.py has it, or that the borrow checker
+# does not cover the code, so that there is nothing for the proof to tie to.
+SHAPE = re.compile(r"has no `(Need-[^`]*|Tie)` that can be named from here|record `[^`]+\.Lts\.[^`]+`( has no field|$)")
 SECONDS = 600
 
 
