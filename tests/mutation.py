@@ -1,9 +1,9 @@
 #!/usr/bin/env python3
-"""mutation.py run CRATE.. | alone COUNT CRATE.. | report CRATE..: every operator, comparison and constant of libraries, changed once.
+"""mutation.py run CRATE.. | alone COUNT CRATE.. | report CRATE..: every operator and constant of the libraries, changed once.
 
 Run it at the repository's root after `rt check`. docs/MUTATION.md says what is changed, and how; no CRATE means every library.
-`run` tries what has no verdict yet, and goes on where an earlier run was cut. `alone` tries COUNT of the mutants once more,
-each by itself and from nothing, and those that stand. `report` prints the table, and each mutant that is not refused.
+`run` tries what has no verdict yet, and goes on where an earlier run was cut. `alone` tries COUNT mutants of each crate once
+more, each by itself and from nothing, and those that stand. `report` prints the table, and each mutant that is not refused.
 """
 import collections
 import pathlib

@@ -134,9 +134,9 @@ def close_of(toks, i):
         i += 1
 
 
-def after_type(toks, i):
-    """The index of the `=` or `;` behind the type of a `let` or a `const` that begins at i."""
-    while toks[i].text not in ("=", ";"):
+def upto(toks, i, *ends):
+    """The index of the first of these tokens from i on, outside brackets that open on the way."""
+    while toks[i].text not in ends:
         i = close_of(toks, i) + 1
     return i
 
@@ -149,8 +149,8 @@ def items_of(toks):
         if text in ("impl", "trait", "static", "macro_rules"):
             raise ValueError(f"an item of a kind that is not known: {text}")
         if text == "const":
-            value = after_type(toks, i + 3) + 1
-            end = next(k for k in range(value, len(toks)) if toks[k].text == ";" and _flat(toks, value, k))
+            value = upto(toks, i + 3, "=") + 1
+            end = upto(toks, value, ";")
             constants[toks[i + 1].text] = (value, end, i + 3)
             i = end
         elif text == "fn":
@@ -165,10 +165,6 @@ def items_of(toks):
     return constants, bodies
 
 
-def _flat(toks, start, end):
-    return sum({"[": 1, "(": 1, "]": -1, ")": -1}.get(t.text, 0) for t in toks[start:end]) == 0
-
-
 def body_places(toks, start, end):
     """The indices of a body's tokens that are code: not types, not lengths of arrays, not casts."""
     i, open_brackets = start, []
@@ -181,7 +177,7 @@ def body_places(toks, start, end):
         if text == "as":
             i += 2
         elif text == ":" and toks[i - 1].kind == "word" and toks[i - 2].text in ("let", "mut"):
-            i = after_type(toks, i + 1)
+            i = upto(toks, i + 1, "=", ";")
         elif text == ";" and open_brackets[-1] == "[":
             while toks[i].text != "]":
                 i += 1
@@ -192,7 +188,9 @@ def body_places(toks, start, end):
 
 def operand_before(toks, i):
     before = toks[i - 1]
-    return before.text in (")", "]") or before.kind in ("int", "float", "byte") or (before.kind == "word" and before.text not in KEYWORDS)
+    if before.kind == "word":
+        return before.text not in KEYWORDS
+    return before.text in (")", "]") or before.kind in ("int", "float", "byte")
 
 
 def constant_uses(text, toks, constants, name, number):
