@@ -110,21 +110,19 @@ def print_counts(name, count):
 
 
 def main():
-    words = sys.argv[1:]
-    if words[:1] == ["report"]:
-        faults = report(words[1:] or libraries())
-        for fault in faults:
-            print(fault, file=sys.stderr)
-        return 1 if faults else 0
-    if words[:1] == ["alone"]:
-        faults = [fault for name in words[2:] or libraries() for fault in alone(name, int(words[1]))]
-        print(f"{len(faults)} faults")
-        return 1 if faults else 0
-    if words[:1] == ["run"]:
-        faults = [fault for name in words[1:] or libraries() for fault in run(name)]
-        print(f"{len(faults)} faults")
-        return 1 if faults else 0
-    sys.exit(__doc__)
+    command, *rest = sys.argv[1:] or [""]
+    if command == "run":
+        faults = [fault for name in rest or libraries() for fault in run(name)]
+    elif command == "alone" and rest:
+        faults = [fault for name in rest[1:] or libraries() for fault in alone(name, int(rest[0]))]
+    elif command == "report":
+        faults = report(rest or libraries())
+    else:
+        sys.exit(__doc__)
+    for fault in faults:
+        print(fault, file=sys.stderr)
+    print(f"{len(faults)} faults", file=sys.stderr)
+    return 1 if faults else 0
 
 
 if __name__ == "__main__":
