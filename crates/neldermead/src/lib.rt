@@ -70,8 +70,9 @@ pub struct Simplex {
     pub v: [Vertex; 17],
 }
 
-// A copy of the vertices costs more than a move does. So each decision is a number, and `told` and `headed`
-// alone hold a Simplex, in one local whose parts are replaced; each has one call site.
+// The compiler copies a Simplex at each call that it does not inline, and inlines what has one call site. So
+// each decision is a number, and `told` and `headed` alone hold a Simplex, in one local whose parts are
+// replaced; each has one call site.
 
 // By whether vertices are left to be asked for.
 fn among(at: usize, n: usize, more: u64, last: u64) -> u64
