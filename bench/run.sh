@@ -37,8 +37,10 @@ echo "# $(rt version); $(rustc --version)"
 echo "# $(uname -sr), $(sed -n 's/^model name[^:]*: //p' /proc/cpuinfo | uniq), load $(cut -d ' ' -f 1-3 /proc/loadavg)"
 echo "# in one process: ns of the objective and of own work, a question"
 target/bench "$rounds"
-echo "# over a pipe: ns a question, all that passes"
-target/bench $((rounds / 10 + 1)) target/bin/fit target/bench_driver
+# Both ends on one core: to wake another takes longer than all else, and as long as it likes.
+pinned=$(command -v taskset >/dev/null && echo "taskset -c 0" || true)
+echo "# over a pipe, on one core: ns a question, all that passes"
+$pinned target/bench $((rounds / 10 + 1)) target/bin/fit target/bench_driver
 echo "# bytes copied a question, and bytes of stack"
 target/bench_memory
 echo "# other libraries: ns of the objective and of own work, an evaluation"
