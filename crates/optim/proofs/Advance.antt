@@ -22,9 +22,12 @@ use Rattle.records.specs.declared.Counts.{Counts}
 use Rattle.records.specs.declared.Record.{Record}
 use Rattle.records.specs.Record.{simplexMark, searchMark, gradientFixedOf, gradientJobOf, validOf, Ranges, Open, Stands}
 use Rattle.stands.specs.Standing.{refusedOf, overOf, gradientDueOf, standingOf}
-use Rattle.optim.specs.Answer.{repeatsOf, steppedOf, gradedOf, takenOf, takenGradientOf, suitsOf, heardOf, answerOf}
-use Rattle.optim.specs.Parts.{meetsOf, acceptsOf, countedOf, simplexToldOf, searchToldOf, descentToldOf, Worded, repliedOf}
-use Rattle.optim.proofs.Ranges.{ranges, open-of, stands, stepped-stands, graded-stands, one-word, n-words}
+use Rattle.moves.specs.Rules.{repeatsOf, suitsOf, meetsOf, acceptsOf}
+use Rattle.moves.specs.Moves.{countedOf, simplexToldOf, searchToldOf, descentToldOf, Worded}
+use Rattle.moves.proofs.Ranges.{ranges, open-of, stands, one-word, n-words}
+use Rattle.optim.specs.Answer.{steppedOf, gradedOf, takenOf, takenGradientOf, heardOf, answerOf}
+use Rattle.optim.specs.Parts.{repliedOf}
+use Rattle.optim.proofs.Ranges.{stepped-stands, graded-stands}
 
 -- ---- the record
 

@@ -1,13 +1,12 @@
 -- The reply to an answer, for every record and every answer. Definitions only.
 use Prim.Native.Nat.{ℕ, _+_}
-use mathlib.Core.Bool.{Bool, false, cond, not}
+use mathlib.Core.Bool.{cond, not}
 use mathlib.Core.List.{List}
-use lib.Dec.{eqb, ltb, leb}
+use lib.Dec.{eqb}
 use lib.ListN.{length, getD}
 use lib.Ieee.{Float, nan}
 use Rattle.vector.specs.Points.{fromSliceOf}
-use Rattle.protocol.specs.declared.Kind.the-variants.{Value, Gradient}
-use Rattle.protocol.specs.Protocol.{letter, Reply, readOf}
+use Rattle.protocol.specs.Protocol.{Reply, readOf}
 use Rattle.objective.specs.declared.Differences.{Differences}
 use Rattle.objective.specs.Step.{toldOf}
 use Rattle.linesearch.specs.Step as linesearch
@@ -19,10 +18,7 @@ use Rattle.neldermead.specs.Step.{toldOf as simplexTold}
 use Rattle.records.specs.declared.Record.{Record}
 use Rattle.records.specs.Record.{simplexMark, searchMark, fixedOf, searchFixedOf, gradientFixedOf, gradientJobOf, validOf}
 use Rattle.stands.specs.Standing.{refusedOf, overOf, gradientDueOf, standingOf}
-
--- "An answer carrying the number last accepted is a repeat. .. Before the first acceptance no number is a repeat."
-unfoldable pub repeatsOf : ℕ → ℕ → Bool
-repeatsOf accepted number = cond (eqb accepted 0) false (eqb number accepted)
+use Rattle.moves.specs.Rules.{repeatsOf, suitsOf}
 
 -- one V answer accepted more, and the parts that it moves
 abbrev pub valuedOf : Record → Differences → Simplex → Descent → Model → Record
@@ -83,12 +79,6 @@ takenOf r v = standingOf (steppedOf r v)
 
 unfoldable pub takenGradientOf : Record → List Float → Reply × Record
 takenGradientOf r g = standingOf (gradedOf r g)
-
--- "A V answer is one f64, a G answer n of them."
-unfoldable pub suitsOf : Record → ℕ → ℕ → Bool
-suitsOf r kind count =
-    cond (gradientDueOf r) (cond (not (eqb kind (letter Gradient))) false (eqb count (r .n)))
-    (cond (not (eqb kind (letter Value))) false (eqb count 1))
 
 -- over a record in range: the repeat rule, then 15, 16, 17, else the answer is accepted
 unfoldable pub heardOf : Record → ℕ → ℕ → List Float → Reply × Record

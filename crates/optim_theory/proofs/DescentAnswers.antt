@@ -30,7 +30,8 @@ use Rattle.fits_theory.specs.Fits.{allFits}
 use Rattle.records.specs.declared.Record.{Record}
 use Rattle.records.specs.Record.{gradientFixedOf, validOf}
 use Rattle.stands.specs.Standing.{overOf, gradientDueOf, standingOf}
-use Rattle.optim.specs.Answer.{repeatsOf, steppedOf, gradedOf, takenOf, takenGradientOf, suitsOf, heardOf as heardBy, answerOf}
+use Rattle.moves.specs.Rules.{repeatsOf, suitsOf}
+use Rattle.optim.specs.Answer.{steppedOf, gradedOf, takenOf, takenGradientOf, heardOf as heardBy, answerOf}
 use Rattle.optim_theory.specs.Engine.{answerCode}
 use Rattle.optim_theory.proofs.Replies.{stands-keeps}
 use Rattle.optim_theory.proofs.EngineAnswers.{repeats-as}

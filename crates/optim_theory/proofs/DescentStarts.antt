@@ -40,7 +40,7 @@ use Rattle.records.specs.declared.Record.{Record}
 use Rattle.records.specs.Record.{mostAllowed, mostEvals, noLimit, noOptions, idleOf, blankOf, gradientFixedOf, gradientJobOf}
 use Rattle.stands.specs.Standing.{refusedOf, standingOf}
 use Rattle.starts.specs.Starts.{limitOf, gradientPastLimitsOf, orderedOf, noMemoryOf, gradientRefusalOf, gradientLimitsOf, keptOptionsOf, gradientMarkOf, gradientRecordOf}
-use Rattle.optim.specs.Start.{gradientOf, bfgsOf, lbfgsOf}
+use Rattle.openings.specs.Start.{gradientOf, bfgsOf, lbfgsOf}
 use Rattle.optim_theory.specs.Engine.{allowance, allowances, startCode}
 use Rattle.optim_theory.proofs.Refusals.{start-named}
 use Rattle.optim_theory.proofs.Replies.{stands-keeps}

@@ -18,8 +18,9 @@ use Rattle.records.specs.declared.Record.{Record}
 use Rattle.records.specs.Record.{simplexMark, searchMark, differencesMark, most, blankOf, validOf, Other}
 use Rattle.stands.specs.Standing.{refusedOf, overOf, gradientDueOf, standingOf}
 use Rattle.starts.specs.Starts.{begunRecordOf}
-use Rattle.optim.specs.Answer.{repeatsOf, steppedOf, takenOf, suitsOf, heardOf, answerOf}
-use Rattle.optim.specs.Start.{differencesOf}
+use Rattle.moves.specs.Rules.{repeatsOf, suitsOf}
+use Rattle.optim.specs.Answer.{steppedOf, takenOf, heardOf, answerOf}
+use Rattle.openings.specs.Start.{differencesOf}
 use Rattle.optim_theory.specs.Engine.{answerCode}
 use Rattle.optim_theory.specs.Jobs.{jobOf}
 use Rattle.optim_theory.specs.Follows.{asTold, DifferencesInRange}

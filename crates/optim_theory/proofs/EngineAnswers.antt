@@ -23,7 +23,8 @@ use Rattle.neldermead_theory.proofs.Follows.{simplex-follows, settles-as-fits}
 use Rattle.records.specs.declared.Record.{Record}
 use Rattle.records.specs.Record.{simplexMark, searchMark, most, lastAsking, fixedOf, gradientJobOf, validOf}
 use Rattle.stands.specs.Standing.{overOf, gradientDueOf, standingOf}
-use Rattle.optim.specs.Answer.{repeatsOf, valuedOf, steppedOf, takenOf, takenGradientOf, suitsOf, heardOf, answerOf}
+use Rattle.moves.specs.Rules.{repeatsOf, suitsOf}
+use Rattle.optim.specs.Answer.{valuedOf, steppedOf, takenOf, takenGradientOf, heardOf, answerOf}
 use Rattle.optim_theory.specs.Engine.{answerCode}
 use Rattle.optim_theory.proofs.Replies.{stands-keeps}
 use Rattle.optim_theory.proofs.EngineBounded.{told-within, step-keeps}

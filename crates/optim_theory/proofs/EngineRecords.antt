@@ -18,8 +18,9 @@ use Rattle.records.specs.declared.Record.{Record}
 use Rattle.records.specs.Record.{simplexMark, searchMark, gradientJobOf, validOf}
 use Rattle.stands.specs.Standing.{overOf, gradientDueOf, standingOf}
 use Rattle.starts.specs.Starts.{simplexRefusalOf, simplexRecordOf, gradientRefusalOf, gradientRecordOf}
-use Rattle.optim.specs.Answer.{repeatsOf, steppedOf, gradedOf, takenOf, takenGradientOf, suitsOf, heardOf, answerOf}
-use Rattle.optim.specs.Start.{simplexOf, gradientOf, bfgsOf, lbfgsOf}
+use Rattle.moves.specs.Rules.{repeatsOf, suitsOf}
+use Rattle.optim.specs.Answer.{steppedOf, gradedOf, takenOf, takenGradientOf, heardOf, answerOf}
+use Rattle.openings.specs.Start.{simplexOf, gradientOf, bfgsOf, lbfgsOf}
 use Rattle.optim_theory.specs.Engine.{allowances, startCode, answerCode, code, InRange, GradientZeros, ZerosOf, Zeros}
 use Rattle.optim_theory.proofs.Replies.{stands-keeps}
 use Rattle.optim_theory.proofs.EngineRelated as simplexes

@@ -34,7 +34,7 @@ use Rattle.records.specs.declared.Record.{Record}
 use Rattle.records.specs.Record.{mostAllowed, blankOf, fixedOf}
 use Rattle.stands.specs.Standing.{refusedOf, standingOf}
 use Rattle.starts.specs.Starts.{excessOf, pastLimitsOf, simplexRefusalOf, limitOf, simplexLimitsOf, simplexRecordOf}
-use Rattle.optim.specs.Start.{simplexOf}
+use Rattle.openings.specs.Start.{simplexOf}
 use Rattle.optim_theory.specs.Engine.{allowance, allowances}
 use Rattle.optim_theory.proofs.Replies.{stands-keeps}
 use Rattle.optim_theory.proofs.EngineBounded.{start-within, opening-keeps}

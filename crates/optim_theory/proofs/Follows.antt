@@ -22,7 +22,7 @@ use Rattle.records.specs.Record.{gradientJobOf, Other}
 use Rattle.stands.specs.Standing.{standingDifferencesOf, standingOf}
 use Rattle.optim.specs.Answer.{valuedOf, steppedOf, takenOf}
 use Rattle.starts.specs.Starts.{begunRecordOf}
-use Rattle.optim.specs.Start.{differencesOf}
+use Rattle.openings.specs.Start.{differencesOf}
 use Rattle.optim_theory.specs.Jobs.{shown}
 use Rattle.optim_theory.specs.Follows.{asTold, differencesEnding, rest, after, JobFollows}
 

@@ -15,7 +15,7 @@ use Rattle.protocol.specs.Protocol.{Question, Answer, Result, fitted, Reply, as
 use Rattle.protocol.specs.Claim.{accepted, Exchange, exchange, questionIn, Dialogue, given, giveAll, begin, run, NotRefused, Started, Brings, IsSimplex, ByPointAlone, OpensWith, OfOne}
 use Rattle.records.specs.declared.Record.{Record}
 use Rattle.starts.specs.Starts.{excessOf, limitOf, pastLimitsOf, simplexRefusalOf, simplexLimitsOf, simplexRecordOf, gradientPastLimitsOf, gradientRefusalOf, gradientLimitsOf, gradientRecordOf}
-use Rattle.optim.specs.Start.{simplexOf, gradientOf, bfgsOf, lbfgsOf}
+use Rattle.openings.specs.Start.{simplexOf, gradientOf, bfgsOf, lbfgsOf}
 use Rattle.optim_theory.specs.Engine.{allowance, startBy, startCode, answerCode, code}
 use Rattle.optim_theory.specs.Mission as spelled
 use Rattle.optim_theory.specs.Mission.{Start, begun, Call, callsFrom, calls, Tells, putBy, questions, Ends, fitOf, Raised, OneObjective, Both, Mission}

@@ -27,8 +27,9 @@ use Rattle.neldermead.specs.Step as neldermead
 use Rattle.records.specs.Record as records
 use Rattle.stands.specs.Standing as stands
 use Rattle.starts.specs.Starts as firsts
+use Rattle.moves.specs.Rules as rules
 use Rattle.optim.specs.Answer as answers
-use Rattle.optim.specs.Start as starts
+use Rattle.openings.specs.Start as starts
 use Rattle.float.specs.Order as order
 use Rattle.optim_theory.specs.Engine.{code}
 use Rattle.optim_theory.specs.Examples.{zero, one, two, sample, sampleAnswers, sampleResult, dense, limited, openingAnswers, wholeAnswers, stoppedResult, wholeResult, Computed, NotVacuous}
@@ -81,8 +82,8 @@ unfolding toBits ofBits ofFields ofInt span climb size odd units round neg isNan
     records.validOf stands.overOf stands.gradientDueOf stands.terminationOf stands.resultOf stands.standingSimplexOf stands.descentTerminationOf
     stands.descentConvergedOf stands.descentResultOf stands.standingDescentOf stands.standingOf firsts.excessOf firsts.pastLimitsOf
     firsts.simplexRefusalOf firsts.limitOf firsts.simplexLimitsOf firsts.simplexRecordOf firsts.gradientPastLimitsOf firsts.orderedOf firsts.noMemoryOf
-    firsts.gradientRefusalOf firsts.gradientLimitsOf firsts.keptOptionsOf firsts.gradientMarkOf firsts.gradientRecordOf answers.repeatsOf
-    answers.steppedOf answers.gradedOf answers.takenOf answers.takenGradientOf answers.suitsOf answers.heardOf answers.answerOf starts.simplexOf
+    firsts.gradientRefusalOf firsts.gradientLimitsOf firsts.keptOptionsOf firsts.gradientMarkOf firsts.gradientRecordOf rules.repeatsOf
+    answers.steppedOf answers.gradedOf answers.takenOf answers.takenGradientOf rules.suitsOf answers.heardOf answers.answerOf starts.simplexOf
     starts.gradientOf starts.bfgsOf starts.lbfgsOf vertexOrder.inOrder method.beta method.gamma method.delta method.displaced method.resolution
     method.better vertices.putOf vertices.insertedOf vertices.sortedOf vertices.summedOf vertices.centroidOf vertices.cornerOf vertices.sizeOf
     vertices.anyFiniteOf vertices.flatOf vertices.convergedOf neldermead.orderedOf neldermead.trialOf neldermead.reflectOf neldermead.reasonOf

@@ -21,7 +21,8 @@ use Rattle.linesearch.specs.Step as linesearch
 use Rattle.linesearch.specs.Step.{asksGradient, asksDifference}
 use Rattle.records.specs.Record.{simplexMark, bfgsMark, lbfgsMark, searchMark, most, lastAsking, fixedOf, searchFixedOf, gradientFixedOf, gradientJobOf, knownRefusalOf, validEndingOf, validDescentOf, validOf}
 use Rattle.stands.specs.Standing.{refusedOf, overOf, gradientDueOf, standingSimplexOf, standingSearchOf, descentEndsOf, standingDescentOf, standingDifferencesOf, standingOf}
-use Rattle.optim.specs.Answer.{repeatsOf, valuedOf, slopedOf, steppedOf, gradedOf, takenOf, takenGradientOf, suitsOf, heardOf, answerOf}
+use Rattle.moves.specs.Rules.{repeatsOf, suitsOf}
+use Rattle.optim.specs.Answer.{valuedOf, slopedOf, steppedOf, gradedOf, takenOf, takenGradientOf, heardOf, answerOf}
 use Rattle.optim_theory.proofs.Refusals.{Named, searched-named, settled-named, told-named, told-gradient-named}
 use Rattle.optim_theory.specs.Replies.{Among, turnsAway, endsJob, refusesAnswer, Answers}
 

@@ -25,7 +25,7 @@ use Rattle.records.specs.declared.Record.{Record}
 use Rattle.records.specs.Record.{blankOf, gradientJobOf}
 use Rattle.stands.specs.Standing.{refusedOf, standingSimplexOf, standingSearchOf, standingDescentOf, standingDifferencesOf, standingOf}
 use Rattle.starts.specs.Starts.{begunRecordOf, pastLimitsOf, simplexRefusalOf, simplexRecordOf, searchPastLimitsOf, searchRefusalOf, searchRecordOf, gradientPastLimitsOf, orderedOf, noMemoryOf, gradientRefusalOf, gradientMarkOf, gradientRecordOf}
-use Rattle.optim.specs.Start.{differencesOf, simplexOf, searchOf, gradientOf, bfgsOf, lbfgsOf}
+use Rattle.openings.specs.Start.{differencesOf, simplexOf, searchOf, gradientOf, bfgsOf, lbfgsOf}
 use Rattle.optim_theory.specs.Replies.{refusesSimplex, refusesBfgs, refusesLbfgs, refusesSearch, refusesDifferences, Opens, Starts}
 use Rattle.optim_theory.proofs.Replies.{ask≢refused, ended≢refused}
 

@@ -22,7 +22,8 @@ use Rattle.linesearch_theory.specs.Follows.{kindOf, toDo, answered}
 use Rattle.records.specs.declared.Record.{Record}
 use Rattle.records.specs.Record.{searchFixedOf}
 use Rattle.stands.specs.Standing.{overOf, gradientDueOf, standingOf}
-use Rattle.optim.specs.Answer.{repeatsOf, takenOf, takenGradientOf, suitsOf, heardOf, answerOf}
+use Rattle.moves.specs.Rules.{repeatsOf, suitsOf}
+use Rattle.optim.specs.Answer.{takenOf, takenGradientOf, heardOf, answerOf}
 use Rattle.optim_theory.specs.Engine.{answerCode}
 use Rattle.optim_theory.specs.Follows.{asTold}
 use Rattle.optim_theory.specs.Jobs.{Text, lastOf, shown, acceptedBy, freshBy, answerBy}

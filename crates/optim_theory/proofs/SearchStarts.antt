@@ -38,7 +38,7 @@ use Rattle.records.specs.declared.Record.{Record}
 use Rattle.records.specs.Record.{mostEvals, wolfeOptionsOf, blankOf}
 use Rattle.stands.specs.Standing.{refusedOf, standingOf}
 use Rattle.starts.specs.Starts.{searchPastLimitsOf, searchRefusalOf, begunSearchOf, searchRecordOf}
-use Rattle.optim.specs.Start.{searchOf}
+use Rattle.openings.specs.Start.{searchOf}
 use Rattle.optim_theory.specs.Follows.{asTold}
 use Rattle.optim_theory.specs.Jobs.{shown}
 use Rattle.optim_theory.specs.Search.{Start, searchText, searchEnding, searchPastLimits, searchCode}

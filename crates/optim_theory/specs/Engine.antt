@@ -26,7 +26,7 @@ use Rattle.fits_theory.specs.Fits.{allFits, reference, EndedBy}
 use Rattle.records.specs.declared.Record.{Record}
 use Rattle.records.specs.Record.{validOf}
 use Rattle.optim.specs.Answer.{answerOf}
-use Rattle.optim.specs.Start.{simplexOf, bfgsOf, lbfgsOf}
+use Rattle.openings.specs.Start.{simplexOf, bfgsOf, lbfgsOf}
 
 -- an allowance that is given or absent, as the code has it
 abbrev pub allowance : Option ℕ → Allowance

@@ -15,7 +15,7 @@ use Rattle.records.specs.Record.{Other, validOf}
 use Rattle.stands.specs.Standing.{standingOf}
 use Rattle.optim.specs.Answer.{steppedOf, takenOf}
 use Rattle.starts.specs.Starts.{begunRecordOf}
-use Rattle.optim.specs.Start.{differencesOf}
+use Rattle.openings.specs.Start.{differencesOf}
 use Rattle.optim_theory.specs.Engine.{answerCode}
 use Rattle.optim_theory.specs.Jobs.{shown, runJob}
 

@@ -14,8 +14,9 @@ use Rattle.protocol.specs.Protocol.{Reply, ask, ended, refused}
 use Rattle.records.specs.declared.Record.{Record}
 use Rattle.records.specs.Record.{knownRefusalOf, blankOf, validOf}
 use Rattle.stands.specs.Standing.{standingOf}
-use Rattle.optim.specs.Answer.{repeatsOf, answerOf}
-use Rattle.optim.specs.Start.{differencesOf, simplexOf, searchOf, bfgsOf, lbfgsOf}
+use Rattle.moves.specs.Rules.{repeatsOf}
+use Rattle.optim.specs.Answer.{answerOf}
+use Rattle.openings.specs.Start.{differencesOf, simplexOf, searchOf, bfgsOf, lbfgsOf}
 
 -- a question, an outcome, or a refusal of those with its detail
 abbrev pub Among : (ℕ → ℕ → Bool) → Reply → Type 0

@@ -18,7 +18,7 @@ use Rattle.linesearch_theory.specs.Counts.{perTrial}
 use Rattle.linesearch_theory.specs.Follows.{ZeroFrom, ZeroPast}
 use Rattle.records.specs.declared.Record.{Record}
 use Rattle.records.specs.Record.{mostEvals, validOf}
-use Rattle.optim.specs.Start.{searchOf}
+use Rattle.openings.specs.Start.{searchOf}
 use Rattle.optim_theory.specs.Engine.{answerCode}
 use Rattle.optim_theory.specs.Follows.{asTold}
 use Rattle.optim_theory.specs.Jobs.{Text, shown, begunBy, answerBy, runJob}

@@ -9,12 +9,13 @@ use protocol::Said;
 use protocol::Summary;
 use protocol::Termination;
 use quasinewton::Descent;
+use records::Answered;
 use records::Counts;
 use records::Record;
 use vertices::Vertex;
 ghost use mathlib.Core.Path.{_≡_};
 ghost use Prim.Native.Nat.{_≤_};
-ghost use Rattle.records.specs.Record.{fixedOf, searchFixedOf, gradientFixedOf, Stands};
+ghost use Rattle.records.specs.Record.{outcomeOf, fixedOf, searchFixedOf, gradientFixedOf, Stands};
 ghost use Rattle.stands.specs.Standing.{overOf, gradientDueOf, terminationOf, descentTerminationOf, descentConvergedOf, standingOf};
 ghost use Rattle.stands.specs.Spoken.{replyWith, refusalOf, askedOf, endedOf, simplexSpokenOf, foundOf, searchSpokenOf, descentEndedOf, descentSpokenOf, differencesSpokenOf};
 
@@ -381,4 +382,19 @@ pub fn standing(r: Record) -> Spoken
         return standing_descent(r.accepted, counts, gradient_fixed(r), d);
     }
     standing_differences(r.accepted, r.n, diff)
+}
+
+// What is said, beside its record.
+pub fn answered(s: Spoken, r: Record) -> Answered
+    ensures { λ a. ⌜ outcomeOf a ≡ replyWith s r ⌝ }
+{
+    let said = s.said;
+    let x = s.x;
+    let g = s.g;
+    Answered {
+        said,
+        x,
+        g,
+        next: r,
+    }
 }

@@ -20,9 +20,10 @@ use Rattle.records.specs.Record.{simplexMark, bfgsMark, searchMark, lastAsking,
 use Rattle.stands.specs.Standing.{standingOf, standingSimplexOf, standingSearchOf, standingDescentOf, standingDifferencesOf, overOf, gradientDueOf}
 use Rattle.starts.specs.Starts.{simplexRefusalOf, simplexRecordOf, gradientRefusalOf, gradientRecordOf}
 use Rattle.starts.proofs.Limits.{simplex-limits, gradient-limits}
-use Rattle.optim.specs.Answer.{repeatsOf, suitsOf, steppedOf, gradedOf, takenOf, takenGradientOf, heardOf, answerOf}
-use Rattle.optim.specs.Start.{simplexOf, gradientOf, bfgsOf, lbfgsOf}
-use Rattle.optim.proofs.Ranges.{ranges}
+use Rattle.moves.specs.Rules.{repeatsOf, suitsOf}
+use Rattle.optim.specs.Answer.{steppedOf, gradedOf, takenOf, takenGradientOf, heardOf, answerOf}
+use Rattle.openings.specs.Start.{simplexOf, gradientOf, bfgsOf, lbfgsOf}
+use Rattle.moves.proofs.Ranges.{ranges}
 use Rattle.text.proofs.Sums.{by}
 use Rattle.talk.specs.declared.State.{State}
 use Rattle.talk.specs.Talk.{Few, startOf}

@@ -10,7 +10,7 @@ use Rattle.protocol.specs.declared.Allowance.{Allowance}
 use Rattle.protocol.specs.Protocol.{fitted, searched, differenced, Reply, ask, ended, refused}
 use Rattle.records.specs.declared.Record.{Record}
 use Rattle.records.specs.Record.{blankOf, noOptions, wolfeOptionsOf, noGradientOptions, simplexMark, bfgsMark}
-use Rattle.optim.specs.Start.{simplexOf, bfgsOf, lbfgsOf}
+use Rattle.openings.specs.Start.{simplexOf, bfgsOf, lbfgsOf}
 use Rattle.optim.specs.Answer.{answerOf}
 use Rattle.text.specs.declared.Line.{Line}
 use Rattle.text.specs.Forms.{most}

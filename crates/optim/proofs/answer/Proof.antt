@@ -14,7 +14,8 @@ use Rattle.hessian.specs.Step.{FewPairs}
 use Rattle.quasinewton.proofs.Range.{after-few}
 use Rattle.records.specs.declared.Record.{Record}
 use Rattle.records.specs.Record.{gradientFixedOf, Ranges, Open, Stands}
-use Rattle.optim.specs.Parts.{meetsOf, acceptsOf, Worded}
+use Rattle.moves.specs.Rules.{meetsOf, acceptsOf}
+use Rattle.moves.specs.Moves.{Worded}
 use Rattle.optim.proofs.Advance.{withParts, modelOf, movedOf, model-stored, model-left, descent-on, simplex-moved, search-moved, descent-moved, differences-moved, due-simplex, due-other, moved-accepted, accepted-ranges, accepted-open, accepted-worded, keptOf, kept-moved, kept-left, kept-stands, replies}
 use Rattle.optim.proofs.answer.Statement.{statement}
 use Rattle.optim.proofs.answer.Tie as tie
