@@ -14,7 +14,7 @@ use Rattle.objective.specs.Step.{toldOf}
 use Rattle.hessian.specs.declared.Model.{Model}
 use Rattle.quasinewton.specs.declared.Descent.{Descent}
 use Rattle.quasinewton.specs.declared.Fixed.{Fixed}
-use Rattle.quasinewton.specs.Step.{storesPairOf, updatedOf, modelAfterOf, onwardOf}
+use Rattle.quasinewton.specs.Step.{asksOf, storesPairOf, updatedOf, modelAfterOf, onwardOf}
 use Rattle.quasinewton.proofs.Parts.{settled-parts}
 use Rattle.neldermead.specs.declared.Simplex.{Simplex}
 use Rattle.protocol.specs.Protocol.{Reply}
@@ -27,6 +27,7 @@ use Rattle.moves.specs.Moves.{countedOf, simplexToldOf, searchToldOf, descentTo
 use Rattle.moves.proofs.Ranges.{ranges, open-of, stands, one-word, n-words}
 use Rattle.optim.specs.Answer.{steppedOf, gradedOf, takenOf, takenGradientOf, heardOf, answerOf}
 use Rattle.optim.specs.Parts.{repliedOf}
+use Rattle.optim.proofs.Asking.{asking-model, asking-rests}
 use Rattle.optim.proofs.Ranges.{stepped-stands, graded-stands}
 
 -- ---- the record
@@ -110,6 +111,9 @@ module _ (r : Record) (words : List Float) where
       pub descent-moved : (p : Record) (q : Descent) → b ≡ true → p ≡ withParts r (r .diff) (r .simplex) (r .descent) (modelOf r words) → q ≡ descentOf r words
           → withParts p (p .diff) (p .simplex) q (p .model) ≡ movedOf r words
       descent-moved p q t k f = rw (ne-eqb _ _ d, ne-eqb _ _ e, ← g, t, k, f)
+
+      pub asking-moved : (q : Descent) → b ≡ true → q ≡ descentToldOf r words → asksOf q ≡ true → withParts r (r .diff) (r .simplex) q (r .model) ≡ movedOf r words
+      asking-moved q t f a = rw (ne-eqb _ _ d, ne-eqb _ _ e, ← g, t, ← f, asking-model (gradientFixedOf r) q a (r .model), asking-rests (gradientFixedOf r) q a (r .model) (countedOf r .fevals))
 
       pub differences-moved : (q : Differences) → b ≡ false → q ≡ toldOf (r .diff) (getD words 0 nan) → withParts r q (r .simplex) (r .descent) (r .model) ≡ movedOf r words
       differences-moved q t f = rw (ne-eqb _ _ d, ne-eqb _ _ e, ← g, t, f)

@@ -49,15 +49,19 @@ pub fn answer(r: Record, number: u64, kind: u8, words: &[f64]) -> Answered
             q.descent = next;
         } else if records::gradient_job(q.job) {
             let told = moves::descent_told(q, words);
-            let fixed = stands::gradient_fixed(q);
-            if quasinewton::stores(fixed, told) {
-                let old = q.model;
-                let model = quasinewton::updated(fixed, told, old);
-                q.model = model;
+            if quasinewton::asks(told) {
+                q.descent = told;
+            } else {
+                let fixed = stands::gradient_fixed(q);
+                if quasinewton::stores(fixed, told) {
+                    let old = q.model;
+                    let model = quasinewton::updated(fixed, told, old);
+                    q.model = model;
+                }
+                let model = q.model;
+                let next = quasinewton::settled(fixed, told, model, counts.fevals);
+                q.descent = next;
             }
-            let model = q.model;
-            let next = quasinewton::settled(fixed, told, model, counts.fevals);
-            q.descent = next;
         } else {
             let old = q.diff;
             let next = objective::told(old, words[0]);
