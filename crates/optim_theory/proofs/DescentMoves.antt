@@ -20,8 +20,8 @@ use Rattle.linesearch.specs.declared.Evaluation.{Evaluation}
 use Rattle.linesearch.specs.Step as linesearch
 use Rattle.hessian.specs.declared.Model.{Model}
 use Rattle.hessian.specs.Step.{limitedUpdateOf, denseUpdateOf, updateOf}
-use Rattle.quasinewton.specs.declared.Descent.{Descent}
-use Rattle.quasinewton.specs.declared.Fixed.{Fixed}
+use Rattle.descents.specs.declared.Descent.{Descent}
+use Rattle.descents.specs.declared.Fixed.{Fixed}
 use Rattle.quasinewton.specs.Step as step
 use Rattle.quasinewton.specs.Step.{probeOf, asksOf, storesOf, smallDecreaseOf, smallStepOf, Moved, storedOf, succeededOf, settledOf, toldOf, toldGradientOf}
 use Rattle.vector.specs.Points.{differenceOf, allFiniteOf}

@@ -19,7 +19,7 @@ use Rattle.protocol.specs.Fits.{mapText}
 use Rattle.hessian.specs.declared.Model.{Model}
 use Rattle.hessian.specs.Ties as hessian
 use Rattle.linesearch.specs.Step.{asksDifference, failed}
-use Rattle.quasinewton.specs.declared.Fixed.{Fixed}
+use Rattle.descents.specs.declared.Fixed.{Fixed}
 use Rattle.quasinewton.specs.Step as quasinewton
 use Rattle.quasinewton.specs.Step.{searching, byRefusal, probeOf, asksOf}
 use Rattle.quasinewton_theory.specs.Algorithm.{Position}

@@ -30,7 +30,7 @@ use Rattle.protocol.specs.Fits.{mapText}
 use Rattle.hessian.specs.Algorithm.{one}
 use Rattle.hessian.specs.Step.{newModelOf, blankOf as blankModel}
 use Rattle.hessian.proofs.Ties.{hessian-ties}
-use Rattle.quasinewton.specs.declared.Fixed.{Fixed}
+use Rattle.descents.specs.declared.Fixed.{Fixed}
 use Rattle.quasinewton.specs.Step.{startOf}
 use Rattle.objective.specs.Step.{begunOf}
 use Rattle.quasinewton_theory.specs.Algorithm.{opened, opening, begunWith}

@@ -23,8 +23,8 @@ use Rattle.linesearch.specs.Start.{lineFromOf, optionsRefusalOf, countsRefusalO
 use Rattle.linesearch.specs.Step as linesearch
 use Rattle.hessian.specs.declared.Model.{Model}
 use Rattle.hessian.specs.Step.{directionOf}
-use Rattle.quasinewton.specs.declared.Fixed.{Fixed}
-use Rattle.quasinewton.specs.declared.Descent.{Descent}
+use Rattle.descents.specs.declared.Fixed.{Fixed}
+use Rattle.descents.specs.declared.Descent.{Descent}
 use Rattle.quasinewton.specs.Step as step
 use Rattle.quasinewton.specs.Step.{firstValue, firstDifferences, searching, byRefusal, smallDecreaseOf, smallStepOf, initialStepOf, notDescendingOf, refusedBy, withLine, withSearch, valuedAt, soughtOf, searchedOf, steepestOf, directedOf, headedOf, lowerOf, missedOf, steppedOf, Moved, storedOf, succeededOf, settledOf, gradedOf, differingOf, valuedOf, toldOf, toldGradientOf, startOf}
 use Rattle.records.specs.Record.{knownRefusalOf, validEndingOf}

@@ -27,8 +27,8 @@ use Rattle.linesearch.specs.declared.Search.{Search}
 use Rattle.linesearch.specs.Step as linesearch
 use Rattle.linesearch_theory.specs.Follows as searches
 use Rattle.linesearch_theory.proofs.Follows.{search-follows}
-use Rattle.quasinewton.specs.declared.Fixed.{Fixed}
-use Rattle.quasinewton.specs.declared.Descent.{Descent}
+use Rattle.descents.specs.declared.Fixed.{Fixed}
+use Rattle.descents.specs.declared.Descent.{Descent}
 use Rattle.quasinewton.specs.Step as step
 use Rattle.quasinewton.specs.Step.{firstDifferences, searching, searchFixed, zeros, storesOf, smallDecreaseOf, smallStepOf, Moved, storedOf, succeededOf, settledOf, probeOf, toldOf, toldGradientOf, startOf}
 use Rattle.quasinewton_theory.specs.Follows.{wantsGradient, heardOf, Sixteen, Shaped, ZeroPast, GradientFollows}

@@ -18,8 +18,8 @@ use Rattle.hessian.specs.Ties as hessian
 use Rattle.hessian.proofs.Ties.{hessian-ties}
 use Rattle.linesearch.specs.declared.Evaluation.{Evaluation}
 use Rattle.linesearch_theory.specs.Follows as searches
-use Rattle.quasinewton.specs.declared.Fixed.{Fixed}
-use Rattle.quasinewton.specs.declared.Descent.{Descent}
+use Rattle.descents.specs.declared.Fixed.{Fixed}
+use Rattle.descents.specs.declared.Descent.{Descent}
 use Rattle.quasinewton.specs.Step.{byFunction, byStep, bySearch, byGradientFailed, storesOf, smallDecreaseOf, smallStepOf, inPhase, withLine, valuedAt, Moved, moved, lowerOf, missedOf, storedOf, steppedOf, succeededOf}
 use Rattle.quasinewton_theory.specs.Algorithm.{Position, stored, stepped, smallDecrease, smallStep, stopsLower, succeeded}
 use Rattle.quasinewton_theory.specs.Follows.{positionOf, toDo, settled, Allows}

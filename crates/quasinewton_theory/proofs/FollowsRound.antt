@@ -30,8 +30,8 @@ use Rattle.linesearch.specs.Start.{lineFromOf, optionsRefusalOf, countsRefusalO
 use Rattle.linesearch_theory.specs.Algorithm.{WolfeResult, Searched, refuses, gives, wolfeRefusal, lineFrom, search, strongWolfe}
 use Rattle.linesearch_theory.specs.Follows as searches
 use Rattle.linesearch_theory.proofs.Follows.{search-follows}
-use Rattle.quasinewton.specs.declared.Fixed.{Fixed}
-use Rattle.quasinewton.specs.declared.Descent.{Descent}
+use Rattle.descents.specs.declared.Fixed.{Fixed}
+use Rattle.descents.specs.declared.Descent.{Descent}
 use Rattle.quasinewton.specs.Step as step
 use Rattle.quasinewton.specs.Step.{byGradient, byIterations, byFevals, inPhase, refusedBy, searchFixed, initialStepOf, notDescendingOf, soughtOf, searchedOf, steepestOf, directedOf, headedOf}
 use Rattle.quasinewton_theory.specs.Algorithm.{Position, concluded, initialStep, searched, notDescending, directed, iterated, round}

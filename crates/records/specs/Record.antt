@@ -14,8 +14,8 @@ use Rattle.linesearch.specs.declared.Fixed as linesearchFixed
 use Rattle.linesearch.specs.Step.{failed}
 use Rattle.hessian.specs.declared.Model.{Model}
 use Rattle.hessian.specs.Step.{InRange, blankOf as blankModel}
-use Rattle.quasinewton.specs.declared.Descent.{Descent}
-use Rattle.quasinewton.specs.declared.Fixed as quasinewtonFixed
+use Rattle.descents.specs.declared.Descent.{Descent}
+use Rattle.descents.specs.declared.Fixed as quasinewtonFixed
 use Rattle.quasinewton.specs.Step.{searching, byRefusal, idleOf as idleDescent}
 use Rattle.vertices.specs.declared.Vertex.{Vertex}
 use Rattle.neldermead.specs.declared.Fixed.{Fixed}

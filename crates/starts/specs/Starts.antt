@@ -21,7 +21,7 @@ use Rattle.linesearch.specs.Start.{optionsRefusalOf, countsRefusalOf}
 use Rattle.linesearch.specs.Trials.{one}
 use Rattle.linesearch.specs.Step as linesearch
 use Rattle.hessian.specs.Step.{blankOf as blankModel, newModelOf}
-use Rattle.quasinewton.specs.declared.Descent.{Descent}
+use Rattle.descents.specs.declared.Descent.{Descent}
 use Rattle.quasinewton.specs.Step.{searching, idleOf as idleDescent, startOf as quasinewtonStart}
 use Rattle.neldermead.specs.Step.{startOf}
 use Rattle.records.specs.declared.Limits.{Limits}
