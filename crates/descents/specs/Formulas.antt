@@ -6,7 +6,7 @@ use lib.Ieee.{Float, lt, le}
 use Rattle.float.specs.Binary64.{_⊖_, _⊗_, _⊘_, bits, plusZero}
 use Rattle.float.specs.Values.{absOf, finiteOf, maxOf, minOf}
 use Rattle.vector.specs.Points.{dotOf, differenceOf, infNormOf}
-use Rattle.hessian.specs.Algorithm.{one}
+use Rattle.hessian.specs.Step.{one}
 
 -- sy > 1e-12 * inf_norm(&s) * inf_norm(&y)
 unfoldable pub storesOf : List Float → List Float → ℕ → Bool

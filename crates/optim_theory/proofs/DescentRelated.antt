@@ -17,7 +17,7 @@ use Rattle.protocol.specs.Ask.{Ask, finish, query, _>>=_}
 use Rattle.protocol.specs.Rounds.{Ending, stops, fails, Limits, Kept, questionAt, put}
 use Rattle.protocol.specs.Fits.{mapText}
 use Rattle.hessian.specs.declared.Model.{Model}
-use Rattle.hessian.specs.Ties as hessian
+use Rattle.hessian_theory.specs.Ties as hessian
 use Rattle.linesearch.specs.Step.{asksDifference, failed}
 use Rattle.descents.specs.declared.Fixed.{Fixed}
 use Rattle.quasinewton.specs.Step as quasinewton

@@ -19,8 +19,8 @@ use Rattle.objective.specs.Follows as differences
 use Rattle.objective.proofs.Follows.{follows as differences-follow}
 use Rattle.hessian.specs.declared.Model.{Model}
 use Rattle.hessian.specs.Step.{updateOf}
-use Rattle.hessian.specs.Ties as hessian
-use Rattle.hessian.proofs.Ties.{hessian-ties}
+use Rattle.hessian_theory.specs.Ties as hessian
+use Rattle.hessian_theory.proofs.Ties.{hessian-ties}
 use Rattle.linesearch.specs.declared.Evaluation.{Evaluation}
 use Rattle.linesearch.specs.declared.Line.{Line}
 use Rattle.linesearch.specs.declared.Search.{Search}

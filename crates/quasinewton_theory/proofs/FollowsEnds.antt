@@ -14,8 +14,8 @@ use Rattle.protocol.specs.Ask.{finish}
 use Rattle.protocol.specs.Rounds.{Ending, stops, Limits}
 use Rattle.hessian.specs.declared.Model.{Model}
 use Rattle.hessian.specs.Step.{updateOf}
-use Rattle.hessian.specs.Ties as hessian
-use Rattle.hessian.proofs.Ties.{hessian-ties}
+use Rattle.hessian_theory.specs.Ties as hessian
+use Rattle.hessian_theory.proofs.Ties.{hessian-ties}
 use Rattle.linesearch.specs.declared.Evaluation.{Evaluation}
 use Rattle.linesearch_theory.specs.Follows as searches
 use Rattle.descents.specs.declared.Fixed.{Fixed}

@@ -21,10 +21,10 @@ use Rattle.protocol.specs.Ask.{Ask, finish, _>>=_}
 use Rattle.protocol.specs.Rounds.{Ending, atHead, stops, goOn, stop, Limits, reached}
 use Rattle.protocol.proofs.Texts.{bind-assoc}
 use Rattle.hessian.specs.declared.Model.{Model}
-use Rattle.hessian.specs.Algorithm.{one}
+use Rattle.hessian_theory.specs.Algorithm.{one}
 use Rattle.hessian.specs.Step.{directionOf}
-use Rattle.hessian.specs.Ties as hessian
-use Rattle.hessian.proofs.Ties.{hessian-ties}
+use Rattle.hessian_theory.specs.Ties as hessian
+use Rattle.hessian_theory.proofs.Ties.{hessian-ties}
 use Rattle.linesearch.specs.declared.Line.{Line}
 use Rattle.linesearch.specs.Start.{lineFromOf, optionsRefusalOf, countsRefusalOf, lineRefusalOf}
 use Rattle.linesearch_theory.specs.Algorithm.{WolfeResult, Searched, refuses, gives, wolfeRefusal, lineFrom, search, strongWolfe}

@@ -19,8 +19,8 @@ use Rattle.protocol.specs.Rounds as rounds
 use Rattle.protocol.specs.Fits.{mapText, mapVerdict, fits}
 use Rattle.hessian.specs.declared.Model.{Model}
 use Rattle.hessian.specs.Step.{newModelOf}
-use Rattle.hessian.specs.Ties as hessian
-use Rattle.hessian.proofs.Ties.{hessian-ties}
+use Rattle.hessian_theory.specs.Ties as hessian
+use Rattle.hessian_theory.proofs.Ties.{hessian-ties}
 use Rattle.linesearch.specs.declared.Search.{Search}
 use Rattle.linesearch.specs.Step.{asksDifference, found, failed}
 use Rattle.linesearch_theory.specs.Algorithm.{WolfeResult, gives}
