@@ -9,9 +9,9 @@ use Rattle.float.specs.Binary64.{plusZero}
 use Rattle.protocol.specs.declared.Refusal.{Refusal}
 use Rattle.objective.specs.declared.Differences.{Differences}
 use Rattle.objective.specs.Step as objective
-use Rattle.linesearch.specs.declared.Line.{Line}
-use Rattle.linesearch.specs.declared.Search.{Search}
-use Rattle.linesearch.specs.declared.Fixed as linesearchFixed
+use Rattle.trials.specs.declared.Line.{Line}
+use Rattle.searches.specs.declared.Search.{Search}
+use Rattle.trials.specs.declared.Fixed as linesearchFixed
 use Rattle.linesearch.specs.Step as linesearch
 use Rattle.descents.specs.declared.Fixed.{Fixed}
 use Rattle.descents.specs.declared.Descent.{Descent}

@@ -14,7 +14,7 @@ use Rattle.protocol.specs.declared.GradientOptions.{GradientOptions}
 use Rattle.protocol.specs.declared.Allowances.{Allowances}
 use Rattle.objective.specs.Step.{begunOf}
 use Rattle.objective.proofs.Follows.{told-within}
-use Rattle.linesearch.specs.declared.Line.{Line}
+use Rattle.trials.specs.declared.Line.{Line}
 use Rattle.hessian.specs.declared.Model.{Model}
 use Rattle.hessian.specs.Step.{InRange}
 use Rattle.quasinewton.specs.Step as quasinewton

@@ -16,7 +16,7 @@ use Rattle.protocol.specs.Protocol.{readOf}
 use Rattle.protocol.specs.Claim.{Limit, limit, unlimited, ofKind}
 use Rattle.protocol.specs.Ask.{query}
 use Rattle.protocol.specs.Bounds.{ofBoth}
-use Rattle.linesearch.specs.declared.Evaluation.{Evaluation}
+use Rattle.trials.specs.declared.Evaluation.{Evaluation}
 use Rattle.linesearch.specs.Step as linesearch
 use Rattle.hessian.specs.declared.Model.{Model}
 use Rattle.hessian.specs.Step.{limitedUpdateOf, denseUpdateOf, updateOf}

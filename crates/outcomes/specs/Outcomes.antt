@@ -5,7 +5,7 @@ use mathlib.Core.List.{List}
 use lib.Ieee.{Float, lt}
 use Rattle.float.specs.Binary64.{plusZero}
 use Rattle.vector.specs.Points.{differenceOf, allFiniteOf}
-use Rattle.linesearch.specs.declared.Evaluation.{Evaluation}
+use Rattle.trials.specs.declared.Evaluation.{Evaluation}
 use Rattle.descents.specs.declared.Fixed.{Fixed}
 use Rattle.descents.specs.declared.Descent.{Descent}
 use Rattle.descents.specs.Formulas.{smallDecreaseOf, smallStepOf}

@@ -7,7 +7,7 @@ use lib.Ieee.{lt}
 use borrow.Author.Tests.{eqb-true}
 use Rattle.float.specs.Binary64.{plusZero}
 use Rattle.vector.specs.Points.{allFiniteOf}
-use Rattle.linesearch.specs.declared.Evaluation.{Evaluation}
+use Rattle.trials.specs.declared.Evaluation.{Evaluation}
 use Rattle.linesearch.specs.Step as linesearch
 use Rattle.hessian.specs.declared.Model.{Model}
 use Rattle.descents.specs.declared.Fixed.{Fixed}

@@ -21,9 +21,9 @@ use Rattle.hessian.specs.declared.Model.{Model}
 use Rattle.hessian.specs.Step.{updateOf}
 use Rattle.hessian_theory.specs.Ties as hessian
 use Rattle.hessian_theory.proofs.Ties.{hessian-ties}
-use Rattle.linesearch.specs.declared.Evaluation.{Evaluation}
-use Rattle.linesearch.specs.declared.Line.{Line}
-use Rattle.linesearch.specs.declared.Search.{Search}
+use Rattle.trials.specs.declared.Evaluation.{Evaluation}
+use Rattle.trials.specs.declared.Line.{Line}
+use Rattle.searches.specs.declared.Search.{Search}
 use Rattle.linesearch.specs.Step as linesearch
 use Rattle.linesearch_theory.specs.Follows as searches
 use Rattle.linesearch_theory.proofs.Follows.{search-follows}

@@ -22,7 +22,7 @@ use Rattle.objective.specs.Step as objective
 use Rattle.objective.specs.Follows as differences
 use Rattle.objective.proofs.Follows.{follows as differences-follow, told-within}
 use Rattle.hessian.specs.declared.Model.{Model}
-use Rattle.linesearch.specs.declared.Search.{Search}
+use Rattle.searches.specs.declared.Search.{Search}
 use Rattle.linesearch.specs.Step as linesearch
 use Rattle.linesearch.specs.Step.{asksGradient, asksDifference}
 use Rattle.linesearch_theory.specs.Algorithm.{WolfeResult, gives}

@@ -16,7 +16,7 @@ use Rattle.hessian.specs.declared.Model.{Model}
 use Rattle.hessian.specs.Step.{updateOf}
 use Rattle.hessian_theory.specs.Ties as hessian
 use Rattle.hessian_theory.proofs.Ties.{hessian-ties}
-use Rattle.linesearch.specs.declared.Evaluation.{Evaluation}
+use Rattle.trials.specs.declared.Evaluation.{Evaluation}
 use Rattle.linesearch_theory.specs.Follows as searches
 use Rattle.descents.specs.declared.Fixed.{Fixed}
 use Rattle.descents.specs.declared.Descent.{Descent}

@@ -25,8 +25,8 @@ use Rattle.hessian_theory.specs.Algorithm.{one}
 use Rattle.hessian.specs.Step.{directionOf}
 use Rattle.hessian_theory.specs.Ties as hessian
 use Rattle.hessian_theory.proofs.Ties.{hessian-ties}
-use Rattle.linesearch.specs.declared.Line.{Line}
-use Rattle.linesearch.specs.Start.{lineFromOf, optionsRefusalOf, countsRefusalOf, lineRefusalOf}
+use Rattle.trials.specs.declared.Line.{Line}
+use Rattle.trials.specs.Start.{lineFromOf, optionsRefusalOf, countsRefusalOf, lineRefusalOf}
 use Rattle.linesearch_theory.specs.Algorithm.{WolfeResult, Searched, refuses, gives, wolfeRefusal, lineFrom, search, strongWolfe}
 use Rattle.linesearch_theory.specs.Follows as searches
 use Rattle.linesearch_theory.proofs.Follows.{search-follows}

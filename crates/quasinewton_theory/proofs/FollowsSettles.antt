@@ -21,7 +21,7 @@ use Rattle.hessian.specs.declared.Model.{Model}
 use Rattle.hessian.specs.Step.{newModelOf}
 use Rattle.hessian_theory.specs.Ties as hessian
 use Rattle.hessian_theory.proofs.Ties.{hessian-ties}
-use Rattle.linesearch.specs.declared.Search.{Search}
+use Rattle.searches.specs.declared.Search.{Search}
 use Rattle.linesearch.specs.Step.{asksDifference, found, failed}
 use Rattle.linesearch_theory.specs.Algorithm.{WolfeResult, gives}
 use Rattle.linesearch_theory.specs.Follows as searches

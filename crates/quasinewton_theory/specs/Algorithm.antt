@@ -17,7 +17,7 @@ use Rattle.protocol.specs.Ask.{Ask, finish, askValue, _>>=_}
 use Rattle.protocol.specs.Rounds.{Ending, atHead, stops, fails, Verdict, goOn, stop, Rounds}
 use Rattle.objective.specs.Algorithm.{evalGradient}
 use Rattle.hessian_theory.specs.Algorithm.{one, InvHessian, newHessian, direction, update}
-use Rattle.linesearch.specs.declared.Evaluation.{Evaluation}
+use Rattle.trials.specs.declared.Evaluation.{Evaluation}
 use Rattle.linesearch_theory.specs.Algorithm.{WolfeResult, Searched, refuses, gives, strongWolfe}
 
 -- ---- the head of a round

@@ -27,7 +27,7 @@ use Rattle.objective.specs.Follows as differences
 use Rattle.hessian.specs.declared.Model.{Model}
 use Rattle.hessian.specs.Step.{newModelOf}
 use Rattle.hessian_theory.specs.Ties as hessian
-use Rattle.linesearch.specs.declared.Search.{Search}
+use Rattle.searches.specs.declared.Search.{Search}
 use Rattle.linesearch.specs.Step.{asksGradient, asksDifference}
 use Rattle.linesearch_theory.specs.Algorithm.{gives}
 use Rattle.linesearch_theory.specs.Follows as search

@@ -10,7 +10,7 @@ use Rattle.protocol.specs.declared.WolfeOptions.{WolfeOptions}
 use Rattle.protocol.specs.declared.GradientOptions.{GradientOptions}
 use Rattle.protocol.specs.Protocol.{Reply, replyOf}
 use Rattle.objective.specs.Step.{begunOf}
-use Rattle.linesearch.specs.declared.Fixed as linesearchFixed
+use Rattle.trials.specs.declared.Fixed as linesearchFixed
 use Rattle.linesearch.specs.Step.{failed}
 use Rattle.hessian.specs.declared.Model.{Model}
 use Rattle.hessian.specs.Step.{InRange, blankOf as blankModel}

@@ -5,8 +5,8 @@ use mathlib.Core.List.{List}
 use lib.Dec.{leb, eqb}
 use lib.Ieee.{Float, neg, le}
 use Rattle.vector.specs.Points.{dotOf, negationOf, infNormOf, allFiniteOf}
-use Rattle.linesearch.specs.declared.Line.{Line}
-use Rattle.linesearch.specs.Start.{lineFromOf, optionsRefusalOf, countsRefusalOf, lineRefusalOf}
+use Rattle.trials.specs.declared.Line.{Line}
+use Rattle.trials.specs.Start.{lineFromOf, optionsRefusalOf, countsRefusalOf, lineRefusalOf}
 use Rattle.linesearch.specs.Step as linesearch
 use Rattle.hessian.specs.declared.Model.{Model}
 use Rattle.hessian.specs.Step.{directionOf}
