@@ -8,8 +8,8 @@ use lib.Ieee.{Float, binary64, toBits}
 use Rattle.float.specs.Binary64.{bits, plusZero}
 use Rattle.float.specs.Sqrt.{sqrtOf}
 use Rattle.protocol.specs.declared.SimplexOptions.{SimplexOptions}
-use Rattle.linesearch.specs.declared.Trial.{Trial}
-use Rattle.linesearch.specs.Cubic.{interpolateOf}
+use Rattle.trials.specs.declared.Trial.{Trial}
+use Rattle.trials.specs.Cubic.{interpolateOf}
 use Rattle.vertices.specs.Method.{alpha, beta, gamma, delta, displaced}
 
 -- what a definition computes, and the bits that it is to have

@@ -1,7 +1,1 @@
-pub mod Loops
-pub mod Places
-pub mod TiesDense
-pub mod TiesLimited
-pub mod Ties
-pub mod Words
 pub mod Range

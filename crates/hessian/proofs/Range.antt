@@ -7,9 +7,11 @@ use native.Mathlib.Omega.{arith}
 use lib.Dec.{eqb}
 use lib.Ieee.{Float}
 use borrow.Author.Tests.{eqb-true, eqb-false}
-use Rattle.hessian.specs.declared.Limited.{Limited}
+use Rattle.limited_hessian.specs.declared.Limited.{Limited}
 use Rattle.hessian.specs.declared.Model.{Model}
-use Rattle.hessian.specs.Step.{InRange, FewPairs, shiftedOf, poppedOf, roomOf, limitedUpdateOf, denseUpdateOf, updateOf}
+use Rattle.hessian.specs.Step.{InRange, FewPairs, updateOf}
+use Rattle.limited_hessian.specs.Step.{shiftedOf, poppedOf, roomOf, limitedUpdateOf}
+use Rattle.dense_hessian.specs.Step.{denseUpdateOf}
 
 pub range-few : (m : Model) → InRange m → FewPairs m
 range-few m r = record { few = λ e. omega (arith, r .most e, r .within e) }

@@ -1,4 +1,1 @@
-pub mod Cubic
-pub mod Trials
-pub mod Start
 pub mod Step

@@ -1,18 +1,18 @@
 // The strong Wolfe search of linesearch.rs, one answer at a time. Each move takes what is told for the open
 // question, and gives the record with the next question or the outcome in it.
-mod evaluations;
-mod start;
-mod trials;
-
 use objective::Differences;
-use protocol::WolfeOptions;
-pub use start::counts_refusal;
-pub use start::line_from;
-pub use start::line_refusal;
-pub use start::options_refusal;
+pub use searches::Search;
+pub use trials::Evaluation;
+pub use trials::Fixed;
+pub use trials::Line;
+pub use trials::Trial;
+pub use trials::counts_refusal;
+pub use trials::line_from;
+pub use trials::line_refusal;
+pub use trials::options_refusal;
 ghost use mathlib.Core.Path.{_≡_};
-ghost use Prim.Native.Nat.{_≤_, _<_};
-ghost use Rattle.linesearch.specs.Step.{precedingOf, risenOf, lowerOf, keepOf, failureOf, successOf, evalOf, zoomOf, bracketOf, bracketedOf, zoomedOf, decidedOf, gradedOf, differingOf, evalGradientOf, valuedOf, begunOf, probeOf, toldOf, toldGradientOf};
+ghost use Prim.Native.Nat.{_≤_};
+ghost use Rattle.linesearch.specs.Step.{gradedOf, differingOf, evalGradientOf, valuedOf, begunOf, probeOf, toldOf, toldGradientOf};
 
 // What is asked for: the trial's value, its gradient, or a value for its differences.
 const VALUE: u64 = 1;
@@ -20,261 +20,13 @@ const VALUE: u64 = 1;
 const GRADIENT: u64 = 2;
 
 const DIFFERENCES: u64 = 3;
-// The search has ended, with both conditions met or not.
-const FOUND: u64 = 4;
-
-const FAILED: u64 = 5;
-
-// The step of a trial, with the value and the slope there.
-pub struct Trial {
-    pub step: f64,
-    pub value: f64,
-    pub slope: f64,
-}
-
-// A trial with its point and its gradient.
-pub struct Evaluation {
-    pub trial: Trial,
-    pub x: [f64; 16],
-    pub g: [f64; 16],
-}
-
-// Where the search starts: point, gradient and value, and the direction with its slope.
-pub struct Line {
-    pub x: [f64; 16],
-    pub g: [f64; 16],
-    pub d: [f64; 16],
-    pub f: f64,
-    pub slope: f64,
-}
-
-// What the start fixes: the count of coordinates, whether the objective gives gradients, the options.
-pub struct Fixed {
-    pub n: usize,
-    pub gradients: bool,
-    pub options: WolfeOptions,
-}
-
-// The search as far as it has come: what is asked for; whether it zooms, between `lo` and `hi`, or
-// doubles, with `lo` as the trial before where `previous` says that there is one; trials made, with the
-// one in hand, of which the step and then the value; the best trial where `kept` says that there is one,
-// at the end the outcome; and the differences. What has not been in use is zero.
-pub struct Search {
-    pub phase: u64,
-    pub zooming: bool,
-    pub trials: u64,
-    pub previous: bool,
-    pub lo: Trial,
-    pub hi: Trial,
-    pub step: f64,
-    pub value: f64,
-    pub kept: bool,
-    pub best: Evaluation,
-    pub diff: Differences,
-}
-
-// ---- moves
-
-// The trial before the one in hand, or the start of the line.
-fn preceding(l: Line, s: Search) -> Trial
-    ensures { λ r. ⌜ r ≡ precedingOf l s ⌝ }
-{
-    let lo = s.lo;
-    if s.previous {
-        return lo;
-    }
-    trials::start(l)
-}
-
-// Whether there is a trial before, and its value is not above.
-fn risen(s: Search, t: Trial) -> bool
-    ensures { λ r. ⌜ r ≡ risenOf s t ⌝ }
-{
-    let lo = s.lo;
-    if !s.previous {
-        return false;
-    }
-    t.value >= lo.value
-}
-
-// Whether the best gives way.
-fn lower(s: Search, t: Evaluation) -> bool
-    ensures { λ r. ⌜ r ≡ lowerOf s t ⌝ }
-{
-    if !s.kept {
-        return true;
-    }
-    t.trial.value < s.best.trial.value
-}
-
-// The best finite trial, the first on ties.
-fn keep(s: Search, t: Evaluation) -> Search
-    ensures { λ r. ⌜ r ≡ keepOf s t ⌝ }
-{
-    if !float::is_finite(t.trial.value) {
-        return s;
-    }
-    if lower(s, t) {
-        let mut q = s;
-        q.kept = true;
-        q.best = t;
-        return q;
-    }
-    s
-}
-
-// The best trial below the start, or else the start.
-fn failure(l: Line, s: Search) -> Search
-    ensures { λ r. ⌜ r ≡ failureOf l s ⌝ }
-{
-    let x = l.x;
-    let g = l.g;
-    let trial = trials::start(l);
-    let start = Evaluation { trial, x, g };
-    let mut q = s;
-    q.phase = FAILED;
-    if !s.kept {
-        q.best = start;
-        return q;
-    }
-    if s.best.trial.value < l.f {
-        return q;
-    }
-    q.best = start;
-    q
-}
-
-// Both conditions are met at t.
-fn success(s: Search, t: Evaluation) -> Search
-    ensures { λ r. ⌜ r ≡ successOf s t ⌝ }
-{
-    let mut q = s;
-    q.phase = FOUND;
-    q.best = t;
-    q
-}
-
-// The next trial, at the step a: its value is asked for.
-fn eval(s: Search, a: f64) -> Search
-    requires { ⌜ s .trials < 18446744073709551615 ⌝ }
-    ensures { λ r. ⌜ r ≡ evalOf s a ⌝ }
-{
-    let mut q = s;
-    q.phase = VALUE;
-    q.trials = s.trials + 1;
-    q.step = a;
-    q
-}
-
-// The next trial between lo and hi.
-fn zoom(fixed: Fixed, l: Line, s: Search, lo: Trial, hi: Trial) -> Search
-    ensures { λ r. ⌜ r ≡ zoomOf fixed l s lo hi ⌝ }
-{
-    let mut q = s;
-    q.zooming = true;
-    q.lo = lo;
-    q.hi = hi;
-    if fixed.options.evals <= s.trials {
-        return failure(l, q);
-    }
-    if trials::narrow(lo, hi) {
-        return failure(l, q);
-    }
-    eval(q, trials::interpolate(lo, hi))
-}
-
-// The next trial in doubling.
-fn bracket(fixed: Fixed, l: Line, s: Search, a: f64) -> Search
-    ensures { λ r. ⌜ r ≡ bracketOf fixed l s a ⌝ }
-{
-    if fixed.options.evals <= s.trials {
-        return failure(l, s);
-    }
-    eval(s, a)
-}
-
-// ---- decisions, when the trial in hand is made
-
-// Algorithm 3.5.
-fn bracketed(fixed: Fixed, l: Line, s: Search, t: Evaluation) -> Search
-    ensures { λ r. ⌜ r ≡ bracketedOf fixed l s t ⌝ }
-{
-    let o = fixed.options;
-    let u = t.trial;
-    let p = preceding(l, s);
-    if !trials::armijo(o, l, u) {
-        return zoom(fixed, l, s, p, u);
-    }
-    if risen(s, u) {
-        return zoom(fixed, l, s, p, u);
-    }
-    if trials::curvature(o, l, u) {
-        return success(s, t);
-    }
-    if !float::is_finite(u.slope) {
-        return zoom(fixed, l, s, u, p);
-    }
-    if u.slope >= 0.0 {
-        return zoom(fixed, l, s, u, p);
-    }
-    if s.step >= o.stepmax {
-        return failure(l, s);
-    }
-    let mut q = s;
-    q.previous = true;
-    q.lo = u;
-    bracket(fixed, l, q, float::min(2.0 * s.step, o.stepmax))
-}
-
-// Algorithm 3.6.
-fn zoomed(fixed: Fixed, l: Line, s: Search, t: Evaluation) -> Search
-    ensures { λ r. ⌜ r ≡ zoomedOf fixed l s t ⌝ }
-{
-    let o = fixed.options;
-    let lo = s.lo;
-    let hi = s.hi;
-    let u = t.trial;
-    if !trials::armijo(o, l, u) {
-        return zoom(fixed, l, s, lo, u);
-    }
-    if u.value >= lo.value {
-        return zoom(fixed, l, s, lo, u);
-    }
-    if trials::curvature(o, l, u) {
-        return success(s, t);
-    }
-    if !float::is_finite(u.slope) {
-        return zoom(fixed, l, s, lo, u);
-    }
-    if u.slope * (hi.step - lo.step) >= 0.0 {
-        return zoom(fixed, l, s, u, lo);
-    }
-    zoom(fixed, l, s, u, hi)
-}
-
-fn decided(fixed: Fixed, l: Line, s: Search, t: Evaluation) -> Search
-    ensures { λ r. ⌜ r ≡ decidedOf fixed l s t ⌝ }
-{
-    let q = keep(s, t);
-    if s.zooming {
-        return zoomed(fixed, l, q, t);
-    }
-    bracketed(fixed, l, q, t)
-}
-
-// ---- answers
 
 // The trial's gradient is g.
 fn graded(fixed: Fixed, l: Line, s: Search, g: [f64; 16]) -> Search
     requires { ⌜ fixed .n ≤ 16 ⌝ }
     ensures { λ r. ⌜ r ≡ gradedOf fixed l s g ⌝ }
 {
-    decided(
-        fixed,
-        l,
-        s,
-        evaluations::evaluated(fixed, l, s.step, s.value, g),
-    )
+    bracketing::decided(fixed, l, s, trials::evaluated(fixed, l, s.step, s.value, g))
 }
 
 // The differences have a question, or are done.
@@ -302,7 +54,7 @@ fn eval_gradient(fixed: Fixed, l: Line, s: Search) -> Search
         q.phase = GRADIENT;
         return q;
     }
-    let x = evaluations::point_at(fixed, l, s.step);
+    let x = trials::point_at(fixed, l, s.step);
     differing(fixed, l, s, objective::begun(x))
 }
 
@@ -316,10 +68,8 @@ fn valued(fixed: Fixed, l: Line, s: Search, v: f64) -> Search
     if float::is_finite(v) {
         return eval_gradient(fixed, l, q);
     }
-    decided(fixed, l, q, evaluations::infeasible(fixed, l, s.step, v))
+    bracketing::decided(fixed, l, q, trials::infeasible(fixed, l, s.step, v))
 }
-
-// ---- the whole
 
 // The search along a line from a first step.
 pub fn begun(fixed: Fixed, l: Line, initial: f64) -> Search
@@ -350,7 +100,7 @@ pub fn begun(fixed: Fixed, l: Line, initial: f64) -> Search
         best,
         diff,
     };
-    bracket(fixed, l, s, float::min(initial, fixed.options.stepmax))
+    searches::bracket(fixed, l, s, float::min(initial, fixed.options.stepmax))
 }
 
 // The point of the open question.
@@ -361,7 +111,7 @@ pub fn probe(fixed: Fixed, l: Line, s: Search) -> [f64; 16]
     let e = s.diff;
     let x = e.x;
     if s.phase != DIFFERENCES {
-        return evaluations::point_at(fixed, l, s.step);
+        return trials::point_at(fixed, l, s.step);
     }
     if e.at < fixed.n {
         return objective::probe(e);

@@ -11,9 +11,9 @@ use lib.Ieee.{Float}
 use Rattle.float.specs.Values.{minOf}
 use Rattle.vector.specs.Lists.{first}
 use Rattle.protocol.specs.Ask.{finish, query}
-use Rattle.linesearch.specs.declared.Line.{Line}
-use Rattle.linesearch.specs.declared.Fixed.{Fixed}
-use Rattle.linesearch.specs.declared.Search.{Search}
+use Rattle.trials.specs.declared.Line.{Line}
+use Rattle.trials.specs.declared.Fixed.{Fixed}
+use Rattle.searches.specs.declared.Search.{Search}
 use Rattle.linesearch.specs.Step.{asksValue, asksGradient, asksDifference, found, failed, withDiff, trialOf, noTrial, begunOf, probeOf}
 use Rattle.linesearch_theory.specs.Algorithm.{bracket, search}
 use Rattle.linesearch_theory.specs.Follows.{loweredLine, kindOf, Shaped, toDo, outcome, answered, SearchFollows}

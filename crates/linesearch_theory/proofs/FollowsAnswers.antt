@@ -22,10 +22,10 @@ use Rattle.objective.specs.Algorithm as algorithm
 use Rattle.objective.specs.Step as step
 use Rattle.objective.specs.Follows as differences
 use Rattle.objective.proofs.Follows.{follows as differences-follow, told-within}
-use Rattle.linesearch.specs.declared.Evaluation.{Evaluation}
-use Rattle.linesearch.specs.declared.Line.{Line}
-use Rattle.linesearch.specs.declared.Fixed.{Fixed}
-use Rattle.linesearch.specs.declared.Search.{Search}
+use Rattle.trials.specs.declared.Evaluation.{Evaluation}
+use Rattle.trials.specs.declared.Line.{Line}
+use Rattle.trials.specs.declared.Fixed.{Fixed}
+use Rattle.searches.specs.declared.Search.{Search}
 use Rattle.linesearch.specs.Step.{asksValue, asksGradient, asksDifference, pointAtOf, nansOf, evaluatedOf, infeasibleOf, withDiff, withValue, decidedOf, gradedOf, differingOf, evalGradientOf, valuedOf, probeOf, toldOf, toldGradientOf}
 use Rattle.linesearch_theory.specs.Algorithm.{WolfeResult, pointAt, evaluated}
 use Rattle.linesearch_theory.specs.Follows.{lowered, kindOf, lined, after, made, toDo, answered}

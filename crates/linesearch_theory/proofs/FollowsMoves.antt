@@ -12,13 +12,13 @@ use Rattle.float.specs.Binary64.{_⊖_, _⊗_, plusZero}
 use Rattle.float.specs.Values.{finiteOf, minOf}
 use Rattle.protocol.specs.declared.WolfeOptions.{WolfeOptions}
 use Rattle.protocol.specs.Ask.{Ask, finish, _>>=_}
-use Rattle.linesearch.specs.declared.Trial.{Trial}
-use Rattle.linesearch.specs.declared.Evaluation.{Evaluation}
-use Rattle.linesearch.specs.declared.Line.{Line}
-use Rattle.linesearch.specs.declared.Fixed.{Fixed}
-use Rattle.linesearch.specs.declared.Search.{Search}
-use Rattle.linesearch.specs.Cubic.{interpolateOf}
-use Rattle.linesearch.specs.Trials.{two, startOf, armijoOf, curvatureOf, narrowOf}
+use Rattle.trials.specs.declared.Trial.{Trial}
+use Rattle.trials.specs.declared.Evaluation.{Evaluation}
+use Rattle.trials.specs.declared.Line.{Line}
+use Rattle.trials.specs.declared.Fixed.{Fixed}
+use Rattle.searches.specs.declared.Search.{Search}
+use Rattle.trials.specs.Cubic.{interpolateOf}
+use Rattle.trials.specs.Trials.{two, startOf, armijoOf, curvatureOf, narrowOf}
 use Rattle.linesearch.specs.Step.{failed, withBest, withEnds, atStart, precedingOf, risenOf, lowerOf, keepOf, failureOf, successOf, evalOf, zoomOf, bracketOf, bracketedOf, zoomedOf, decidedOf}
 use Rattle.linesearch_theory.specs.Algorithm.{WolfeResult, eval, lower, keep, start, bestOrStart, failure, success, zoom, bracket}
 use Rattle.linesearch_theory.specs.Follows.{lowered, keptBest, previousTrial, lined, afterZoom, afterBracket, afterBy, after, toDo}

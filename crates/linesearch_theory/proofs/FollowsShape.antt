@@ -17,13 +17,13 @@ use Rattle.objective.specs.declared.Differences.{Differences}
 use Rattle.objective.specs.Step as step
 use Rattle.objective.specs.Follows as differences
 use Rattle.objective.proofs.Follows.{follows as differences-follow}
-use Rattle.linesearch.specs.declared.Trial.{Trial}
-use Rattle.linesearch.specs.declared.Evaluation.{Evaluation}
-use Rattle.linesearch.specs.declared.Line.{Line}
-use Rattle.linesearch.specs.declared.Fixed.{Fixed}
-use Rattle.linesearch.specs.declared.Search.{Search}
-use Rattle.linesearch.specs.Cubic.{interpolateOf}
-use Rattle.linesearch.specs.Trials.{two, armijoOf, curvatureOf, narrowOf}
+use Rattle.trials.specs.declared.Trial.{Trial}
+use Rattle.trials.specs.declared.Evaluation.{Evaluation}
+use Rattle.trials.specs.declared.Line.{Line}
+use Rattle.trials.specs.declared.Fixed.{Fixed}
+use Rattle.searches.specs.declared.Search.{Search}
+use Rattle.trials.specs.Cubic.{interpolateOf}
+use Rattle.trials.specs.Trials.{two, armijoOf, curvatureOf, narrowOf}
 use Rattle.linesearch.specs.Step.{asksValue, asksGradient, asksDifference, found, failed, pointAtOf, nansOf, evaluatedOf, infeasibleOf, withBest, withEnds, withDiff, withValue, precedingOf, risenOf, lowerOf, keepOf, atStart, failureOf, successOf, evalOf, zoomOf, bracketOf, bracketedOf, zoomedOf, decidedOf, gradedOf, differingOf, evalGradientOf, valuedOf, zeros, noTrial, begunOf, probeOf, toldOf, toldGradientOf}
 use Rattle.linesearch_theory.specs.Follows.{ZeroFrom, LineHas, Shaped, ZeroPast}
 

@@ -18,9 +18,9 @@ use Rattle.protocol.specs.Rounds.{Ending}
 use Rattle.protocol.specs.RoundsLaws.{Begins}
 use Rattle.protocol.proofs.Texts.{wp-map, wp-grows}
 use Rattle.protocol.proofs.Replies.{not-above-self}
-use Rattle.linesearch.specs.declared.Evaluation.{Evaluation}
-use Rattle.linesearch.specs.declared.Line.{Line}
-use Rattle.linesearch.specs.Trials.{two, startOf, armijoOf}
+use Rattle.trials.specs.declared.Evaluation.{Evaluation}
+use Rattle.trials.specs.declared.Line.{Line}
+use Rattle.trials.specs.Trials.{two, startOf, armijoOf}
 use Rattle.linesearch_theory.specs.Algorithm.{WolfeResult, start, bracket, search}
 use Rattle.linesearch_theory.specs.Laws.{Heard, EvaluationTold, Descending, Made, ResultLaws, StepLaws, SearchLaws}
 use Rattle.linesearch_theory.proofs.Steps.{Plus, plus-le, positive-plus, min-plus, twice-plus, interpolate-plus}

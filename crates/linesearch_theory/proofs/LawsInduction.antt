@@ -9,11 +9,11 @@ use Rattle.float.specs.Values.{Finite, finiteOf, minOf}
 use Rattle.protocol.specs.declared.WolfeOptions.{WolfeOptions}
 use Rattle.protocol.specs.Ask.{Ask, _>>=_}
 use Rattle.protocol.proofs.Replies.{true-T}
-use Rattle.linesearch.specs.declared.Trial.{Trial}
-use Rattle.linesearch.specs.declared.Evaluation.{Evaluation}
-use Rattle.linesearch.specs.declared.Line.{Line}
-use Rattle.linesearch.specs.Cubic.{interpolateOf}
-use Rattle.linesearch.specs.Trials.{two, startOf, armijoOf, curvatureOf, narrowOf}
+use Rattle.trials.specs.declared.Trial.{Trial}
+use Rattle.trials.specs.declared.Evaluation.{Evaluation}
+use Rattle.trials.specs.declared.Line.{Line}
+use Rattle.trials.specs.Cubic.{interpolateOf}
+use Rattle.trials.specs.Trials.{two, startOf, armijoOf, curvatureOf, narrowOf}
 use Rattle.linesearch_theory.specs.Algorithm.{WolfeResult, eval, lower, keep, start, bestOrStart, failure, success, zoom, before, risen, bracket, search}
 
 module _ (read : Float → Float) (gradients : Bool) (o : WolfeOptions) (l : Line) where

@@ -20,8 +20,8 @@ use Rattle.protocol.specs.Ask.{Ask, finish, askValue, _>>=_, heardAt, wp, Grows
 use Rattle.protocol.proofs.Texts.{wp-bind, wp-map, wp-grows}
 use Rattle.protocol.proofs.Readings.{only, read-own}
 use Rattle.objective.specs.Algorithm.{slopeAt, differencesFrom, evalGradient}
-use Rattle.linesearch.specs.declared.Evaluation.{Evaluation}
-use Rattle.linesearch.specs.declared.Line.{Line}
+use Rattle.trials.specs.declared.Evaluation.{Evaluation}
+use Rattle.trials.specs.declared.Line.{Line}
 use Rattle.linesearch_theory.specs.Algorithm.{pointAt, evaluated, eval}
 use Rattle.linesearch_theory.specs.Laws.{ValueTold, Heard, EvaluationLaws, Together}
 

@@ -22,11 +22,11 @@ use Rattle.protocol.specs.Ask.{Ask, finish, askValue, _>>=_, heardAt, wp}
 use Rattle.protocol.proofs.Texts.{wp-bind, wp-map}
 use Rattle.protocol.proofs.Replies.{true-T, not-above-self}
 use Rattle.objective.specs.Algorithm.{forwardOf, backwardOf, slopeAt, differencesFrom, evalGradient}
-use Rattle.linesearch.specs.declared.Trial.{Trial}
-use Rattle.linesearch.specs.declared.Evaluation.{Evaluation}
-use Rattle.linesearch.specs.declared.Line.{Line}
-use Rattle.linesearch.specs.Cubic.{interpolateOf}
-use Rattle.linesearch.specs.Trials.{two}
+use Rattle.trials.specs.declared.Trial.{Trial}
+use Rattle.trials.specs.declared.Evaluation.{Evaluation}
+use Rattle.trials.specs.declared.Line.{Line}
+use Rattle.trials.specs.Cubic.{interpolateOf}
+use Rattle.trials.specs.Trials.{two}
 use Rattle.linesearch_theory.specs.Algorithm.{WolfeResult, eval, keep, start, bestOrStart, search}
 use Rattle.linesearch_theory.specs.Laws.{Together, OfGradient, Trials, FirstLeast, Made}
 use Rattle.linesearch_theory.proofs.LawsInduction.{Invariant, search-holds, given-cases}

@@ -14,9 +14,9 @@ use Rattle.float.specs.Sqrt.{sqrtOf}
 use Rattle.float.proofs.Order.{fin-le, le-number-l, le-trans, lt-trans, lt-irrefl, by-test}
 use Rattle.float.proofs.Sums.{round-neg, round-negative, minus-le}
 use Rattle.protocol.proofs.Replies.{true-T}
-use Rattle.linesearch.specs.declared.Trial.{Trial}
-use Rattle.linesearch.specs.Cubic.{midpointOf, nearEndOf, d1Of, minimiserOf, interpolateOf}
-use Rattle.linesearch.specs.Trials.{two}
+use Rattle.trials.specs.declared.Trial.{Trial}
+use Rattle.trials.specs.Cubic.{midpointOf, nearEndOf, d1Of, minimiserOf, interpolateOf}
+use Rattle.trials.specs.Trials.{two}
 
 -- a number with no minus
 abbrev pub Plus : Float → Type 0

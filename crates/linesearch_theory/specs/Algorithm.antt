@@ -15,11 +15,11 @@ use Rattle.protocol.specs.declared.Refusal.{Refusal}
 use Rattle.protocol.specs.Protocol.{readOf, refusal, noRefusal}
 use Rattle.protocol.specs.Ask.{Ask, finish, askValue, _>>=_}
 use Rattle.objective.specs.Algorithm.{evalGradient}
-use Rattle.linesearch.specs.declared.Trial.{Trial}
-use Rattle.linesearch.specs.declared.Evaluation.{Evaluation}
-use Rattle.linesearch.specs.declared.Line.{Line}
-use Rattle.linesearch.specs.Cubic.{interpolateOf}
-use Rattle.linesearch.specs.Trials.{one, two, startOf, armijoOf, curvatureOf, narrowOf}
+use Rattle.trials.specs.declared.Trial.{Trial}
+use Rattle.trials.specs.declared.Evaluation.{Evaluation}
+use Rattle.trials.specs.declared.Line.{Line}
+use Rattle.trials.specs.Cubic.{interpolateOf}
+use Rattle.trials.specs.Trials.{one, two, startOf, armijoOf, curvatureOf, narrowOf}
 
 -- `WolfeResult`: whether both conditions hold, the trial that is given, and how many were made
 pub record WolfeResult : Type 0 where

@@ -11,7 +11,7 @@ use Rattle.protocol.specs.declared.WolfeOptions.{WolfeOptions}
 use Rattle.protocol.specs.Claim.{ofKind}
 use Rattle.protocol.specs.Bounds.{Costs, ofBoth}
 use Rattle.objective.specs.Algorithm.{evalGradient}
-use Rattle.linesearch.specs.declared.Line.{Line}
+use Rattle.trials.specs.declared.Line.{Line}
 use Rattle.linesearch_theory.specs.Algorithm.{search}
 
 -- what a gradient asks of the kind at a point of n coordinates: itself, or the 2n values of its differences

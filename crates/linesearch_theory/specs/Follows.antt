@@ -18,12 +18,12 @@ use Rattle.protocol.specs.declared.Kind.the-variants.{Value, Gradient}
 use Rattle.protocol.specs.Protocol.{readOf}
 use Rattle.protocol.specs.Ask.{Ask, finish, query, _>>=_}
 use Rattle.objective.specs.Follows as differences
-use Rattle.linesearch.specs.declared.Trial.{Trial}
-use Rattle.linesearch.specs.declared.Evaluation.{Evaluation}
-use Rattle.linesearch.specs.declared.Line.{Line}
-use Rattle.linesearch.specs.declared.Fixed.{Fixed}
-use Rattle.linesearch.specs.declared.Search.{Search}
-use Rattle.linesearch.specs.Trials.{two, startOf, armijoOf, curvatureOf}
+use Rattle.trials.specs.declared.Trial.{Trial}
+use Rattle.trials.specs.declared.Evaluation.{Evaluation}
+use Rattle.trials.specs.declared.Line.{Line}
+use Rattle.trials.specs.declared.Fixed.{Fixed}
+use Rattle.searches.specs.declared.Search.{Search}
+use Rattle.trials.specs.Trials.{two, startOf, armijoOf, curvatureOf}
 use Rattle.linesearch.specs.Step.{asksValue, asksGradient, asksDifference, found, failed, begunOf, probeOf, toldOf, toldGradientOf}
 use Rattle.linesearch_theory.specs.Algorithm.{WolfeResult, pointAt, evaluated, eval, keep, failure, success, zoom, bracket, search}
 

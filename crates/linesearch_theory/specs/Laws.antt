@@ -20,9 +20,9 @@ use Rattle.protocol.specs.Ask.{Ask, finish, query, askValue, _>>=_, heardAt, wp
 use Rattle.protocol.specs.Rounds.{Ending}
 use Rattle.protocol.specs.RoundsLaws.{Begins}
 use Rattle.objective.specs.Algorithm.{forwardOf, backwardOf, evalGradient}
-use Rattle.linesearch.specs.declared.Evaluation.{Evaluation}
-use Rattle.linesearch.specs.declared.Line.{Line}
-use Rattle.linesearch.specs.Trials.{armijoOf, curvatureOf}
+use Rattle.trials.specs.declared.Evaluation.{Evaluation}
+use Rattle.trials.specs.declared.Line.{Line}
+use Rattle.trials.specs.Trials.{armijoOf, curvatureOf}
 use Rattle.linesearch_theory.specs.Algorithm.{WolfeResult, start, search}
 
 -- ---- values and gradients

@@ -8,7 +8,7 @@ use lib.Ieee.{Float, nan}
 use Rattle.vector.specs.Points.{fromSliceOf}
 use Rattle.protocol.specs.Protocol.{readOf}
 use Rattle.linesearch.specs.Step as linesearch
-use Rattle.quasinewton.specs.declared.Descent.{Descent}
+use Rattle.descents.specs.declared.Descent.{Descent}
 use Rattle.quasinewton.specs.Step as quasinewton
 use Rattle.neldermead.specs.declared.Simplex.{Simplex}
 use Rattle.neldermead.specs.Step.{toldOf as simplexTold}

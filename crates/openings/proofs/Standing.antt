@@ -12,7 +12,7 @@ use Rattle.protocol.specs.declared.WolfeOptions.{WolfeOptions}
 use Rattle.protocol.specs.declared.GradientOptions.{GradientOptions}
 use Rattle.protocol.specs.declared.Allowances.{Allowances}
 use Rattle.objective.specs.Step.{begunOf}
-use Rattle.linesearch.specs.declared.Line.{Line}
+use Rattle.trials.specs.declared.Line.{Line}
 use Rattle.neldermead.specs.Step.{startOf}
 use Rattle.quasinewton.specs.Step as quasinewton
 use Rattle.records.specs.Record.{gradientJobOf, Stands}

@@ -11,7 +11,7 @@ use Rattle.protocol.specs.declared.SimplexOptions.{SimplexOptions}
 use Rattle.protocol.specs.declared.WolfeOptions.{WolfeOptions}
 use Rattle.protocol.specs.declared.GradientOptions.{GradientOptions}
 use Rattle.protocol.specs.Protocol.{Reply}
-use Rattle.linesearch.specs.Start.{lineFromOf, lineRefusalOf}
+use Rattle.trials.specs.Start.{lineFromOf, lineRefusalOf}
 use Rattle.records.specs.declared.Record.{Record}
 use Rattle.records.specs.Record.{blankOf}
 use Rattle.stands.specs.Standing.{refusedOf, standingOf}

@@ -12,8 +12,8 @@ use Rattle.vector.specs.Points.{fromSliceOf}
 use Rattle.objective.specs.declared.Differences.{Differences}
 use Rattle.objective.specs.Step.{toldOf}
 use Rattle.hessian.specs.declared.Model.{Model}
-use Rattle.quasinewton.specs.declared.Descent.{Descent}
-use Rattle.quasinewton.specs.declared.Fixed.{Fixed}
+use Rattle.descents.specs.declared.Descent.{Descent}
+use Rattle.descents.specs.declared.Fixed.{Fixed}
 use Rattle.quasinewton.specs.Step.{asksOf, storesPairOf, updatedOf, modelAfterOf, onwardOf}
 use Rattle.quasinewton.proofs.Parts.{settled-parts}
 use Rattle.neldermead.specs.declared.Simplex.{Simplex}

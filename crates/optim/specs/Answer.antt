@@ -11,7 +11,7 @@ use Rattle.objective.specs.declared.Differences.{Differences}
 use Rattle.objective.specs.Step.{toldOf}
 use Rattle.linesearch.specs.Step as linesearch
 use Rattle.hessian.specs.declared.Model.{Model}
-use Rattle.quasinewton.specs.declared.Descent.{Descent}
+use Rattle.descents.specs.declared.Descent.{Descent}
 use Rattle.quasinewton.specs.Step as quasinewton
 use Rattle.neldermead.specs.declared.Simplex.{Simplex}
 use Rattle.neldermead.specs.Step.{toldOf as simplexTold}

@@ -20,8 +20,8 @@ use Rattle.protocol.specs.Ask.{Ask, finish, query, _>>=_}
 use Rattle.protocol.specs.Rounds.{Ending, atHead, stops, fails, Limits, openAt, over, Kept, kept, put, standing, accept, fresh, answerTo}
 use Rattle.protocol.specs.Fits.{mapText}
 use Rattle.neldermead_theory.specs.Algorithm.{nelderMead}
-use Rattle.quasinewton.specs.declared.Descent.{Descent}
-use Rattle.quasinewton.specs.declared.Fixed.{Fixed}
+use Rattle.descents.specs.declared.Descent.{Descent}
+use Rattle.descents.specs.declared.Fixed.{Fixed}
 use Rattle.quasinewton.specs.Step.{probeOf, asksOf}
 use Rattle.quasinewton_theory.specs.Algorithm.{Position}
 use Rattle.quasinewton_theory.specs.Follows.{toDo, wantsGradient, kindOf, heardOf}

@@ -16,12 +16,12 @@ use Rattle.protocol.specs.Protocol.{readOf}
 use Rattle.protocol.specs.Claim.{Limit, limit, unlimited, ofKind}
 use Rattle.protocol.specs.Ask.{query}
 use Rattle.protocol.specs.Bounds.{ofBoth}
-use Rattle.linesearch.specs.declared.Evaluation.{Evaluation}
+use Rattle.trials.specs.declared.Evaluation.{Evaluation}
 use Rattle.linesearch.specs.Step as linesearch
 use Rattle.hessian.specs.declared.Model.{Model}
 use Rattle.hessian.specs.Step.{limitedUpdateOf, denseUpdateOf, updateOf}
-use Rattle.quasinewton.specs.declared.Descent.{Descent}
-use Rattle.quasinewton.specs.declared.Fixed.{Fixed}
+use Rattle.descents.specs.declared.Descent.{Descent}
+use Rattle.descents.specs.declared.Fixed.{Fixed}
 use Rattle.quasinewton.specs.Step as step
 use Rattle.quasinewton.specs.Step.{probeOf, asksOf, storesOf, smallDecreaseOf, smallStepOf, Moved, storedOf, succeededOf, settledOf, toldOf, toldGradientOf}
 use Rattle.vector.specs.Points.{differenceOf, allFiniteOf}

@@ -17,9 +17,9 @@ use Rattle.protocol.specs.Ask.{Ask, finish, query, _>>=_}
 use Rattle.protocol.specs.Rounds.{Ending, stops, fails, Limits, Kept, questionAt, put}
 use Rattle.protocol.specs.Fits.{mapText}
 use Rattle.hessian.specs.declared.Model.{Model}
-use Rattle.hessian.specs.Ties as hessian
+use Rattle.hessian_theory.specs.Ties as hessian
 use Rattle.linesearch.specs.Step.{asksDifference, failed}
-use Rattle.quasinewton.specs.declared.Fixed.{Fixed}
+use Rattle.descents.specs.declared.Fixed.{Fixed}
 use Rattle.quasinewton.specs.Step as quasinewton
 use Rattle.quasinewton.specs.Step.{searching, byRefusal, probeOf, asksOf}
 use Rattle.quasinewton_theory.specs.Algorithm.{Position}

@@ -27,10 +27,10 @@ use Rattle.protocol.specs.PastLimits.{excess, optionsPast, pastLimits}
 use Rattle.protocol.specs.Rounds.{fails, Limits, limitsOf, put, engine}
 use Rattle.protocol.specs.Bounds.{ofBoth}
 use Rattle.protocol.specs.Fits.{mapText}
-use Rattle.hessian.specs.Algorithm.{one}
+use Rattle.hessian_theory.specs.Algorithm.{one}
 use Rattle.hessian.specs.Step.{newModelOf, blankOf as blankModel}
-use Rattle.hessian.proofs.Ties.{hessian-ties}
-use Rattle.quasinewton.specs.declared.Fixed.{Fixed}
+use Rattle.hessian_theory.proofs.Ties.{hessian-ties}
+use Rattle.descents.specs.declared.Fixed.{Fixed}
 use Rattle.quasinewton.specs.Step.{startOf}
 use Rattle.objective.specs.Step.{begunOf}
 use Rattle.quasinewton_theory.specs.Algorithm.{opened, opening, begunWith}

@@ -15,8 +15,8 @@ use Rattle.float.specs.Values as values
 use Rattle.vector.specs.Points as points
 use Rattle.vector.specs.Lists as lists
 use Rattle.protocol.specs.Protocol as protocol
-use Rattle.linesearch.specs.Trials as trials
-use Rattle.linesearch.specs.Start as lines
+use Rattle.trials.specs.Trials as trials
+use Rattle.trials.specs.Start as lines
 use Rattle.linesearch.specs.Step as linesearch
 use Rattle.hessian.specs.Step as hessian
 use Rattle.quasinewton.specs.Step as quasinewton

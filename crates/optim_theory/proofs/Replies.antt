@@ -13,7 +13,7 @@ use Rattle.vector.specs.Points.{fromSliceOf}
 use Rattle.protocol.specs.Protocol.{Question, Outcome, Reply, ask, ended, refused, readOf}
 use Rattle.objective.specs.Step.{toldOf}
 use Rattle.neldermead.specs.Step.{notFinite, toldOf as simplexTold}
-use Rattle.quasinewton.specs.declared.Fixed as quasinewtonFixed
+use Rattle.descents.specs.declared.Fixed as quasinewtonFixed
 use Rattle.quasinewton.specs.Step as quasinewton
 use Rattle.quasinewton.specs.Step.{byRefusal, Moved}
 use Rattle.records.specs.declared.Record.{Record}

@@ -15,9 +15,9 @@ use Rattle.protocol.specs.declared.Allowances.{Allowances}
 use Rattle.protocol.specs.declared.WolfeOptions.{WolfeOptions}
 use Rattle.protocol.specs.declared.Refusal.{Refusal}
 use Rattle.protocol.specs.Protocol.{Question, Outcome, Reply, ask, ended, noRefusal}
-use Rattle.linesearch.specs.declared.Line.{Line}
-use Rattle.linesearch.specs.Trials.{one}
-use Rattle.linesearch.specs.Start.{lineFromOf, optionsRefusalOf, countsRefusalOf, lineRefusalOf}
+use Rattle.trials.specs.declared.Line.{Line}
+use Rattle.trials.specs.Trials.{one}
+use Rattle.trials.specs.Start.{lineFromOf, optionsRefusalOf, countsRefusalOf, lineRefusalOf}
 use Rattle.linesearch.specs.Step.{asksGradient, asksDifference}
 use Rattle.quasinewton.specs.Step as quasinewton
 use Rattle.neldermead.specs.Step.{startOf}

@@ -20,8 +20,8 @@ use Rattle.protocol.specs.Protocol.{readOf}
 use Rattle.protocol.specs.Claim.{ofKind}
 use Rattle.protocol.specs.Ask.{Ask, finish, query, _>>=_}
 use Rattle.protocol.specs.Bounds.{Costs, ofBoth}
-use Rattle.linesearch.specs.declared.Search as search
-use Rattle.linesearch.specs.declared.Fixed.{Fixed}
+use Rattle.searches.specs.declared.Search as search
+use Rattle.trials.specs.declared.Fixed.{Fixed}
 use Rattle.linesearch.specs.Step.{asksGradient, asksDifference, found, failed, probeOf, toldOf, toldGradientOf}
 use Rattle.linesearch_theory.specs.Algorithm.{WolfeResult, Searched, gives}
 use Rattle.linesearch_theory.specs.Counts.{perTrial}

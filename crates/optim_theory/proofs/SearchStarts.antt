@@ -25,10 +25,10 @@ use Rattle.protocol.specs.Claim.{NotRefused}
 use Rattle.protocol.specs.Ask.{Ask, finish, _>>=_}
 use Rattle.protocol.specs.Bounds.{Costs, ofBoth}
 use Rattle.protocol.proofs.Bounds.{costs-bind}
-use Rattle.linesearch.specs.declared.Line.{Line}
-use Rattle.linesearch.specs.declared.Fixed.{Fixed}
-use Rattle.linesearch.specs.Trials.{one}
-use Rattle.linesearch.specs.Start.{lineFromOf, optionsRefusalOf, countsRefusalOf, lineRefusalOf}
+use Rattle.trials.specs.declared.Line.{Line}
+use Rattle.trials.specs.declared.Fixed.{Fixed}
+use Rattle.trials.specs.Trials.{one}
+use Rattle.trials.specs.Start.{lineFromOf, optionsRefusalOf, countsRefusalOf, lineRefusalOf}
 use Rattle.linesearch_theory.specs.Algorithm.{WolfeResult, search, wolfeRefusal, Searched, refuses, lineFrom, strongWolfe}
 use Rattle.linesearch_theory.specs.Counts.{perTrial}
 use Rattle.linesearch_theory.specs.Follows.{loweredLine, ZeroFrom, LineHas}

@@ -18,7 +18,7 @@ use Rattle.protocol.specs.Bounds.{questionsOf}
 use Rattle.neldermead_theory.specs.Counts.{byFevals, byIterations}
 use Rattle.neldermead_theory.specs.Ties.{ZeroFrom}
 use Rattle.neldermead_theory.specs.Follows.{EveryPoint}
-use Rattle.hessian.specs.Ties.{ZerosPast}
+use Rattle.hessian_theory.specs.Ties.{ZerosPast}
 use Rattle.quasinewton_theory.specs.Counts.{withGradients, withoutGradients, GradientJob}
 use Rattle.quasinewton_theory.specs.Follows.{ZeroPast}
 use Rattle.fits_theory.specs.Refusals.{Replied}

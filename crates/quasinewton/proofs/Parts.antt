@@ -7,12 +7,16 @@ use lib.Ieee.{lt}
 use borrow.Author.Tests.{eqb-true}
 use Rattle.float.specs.Binary64.{plusZero}
 use Rattle.vector.specs.Points.{allFiniteOf}
-use Rattle.linesearch.specs.declared.Evaluation.{Evaluation}
+use Rattle.trials.specs.declared.Evaluation.{Evaluation}
 use Rattle.linesearch.specs.Step as linesearch
 use Rattle.hessian.specs.declared.Model.{Model}
-use Rattle.quasinewton.specs.declared.Fixed.{Fixed}
-use Rattle.quasinewton.specs.declared.Descent.{Descent}
-use Rattle.quasinewton.specs.Step.{searching, byFunction, byStep, bySearch, byGradientFailed, atHead, storesOf, smallDecreaseOf, smallStepOf, inPhase, withLine, valuedAt, headedOf, moved, lowerOf, missedOf, steppedOf, storedOf, succeededOf, settledOf, pairStepOf, pairChangeOf, storesPairOf, updatedOf, modelAfterOf, testedOf, arrivedOf, onwardOf}
+use Rattle.descents.specs.declared.Fixed.{Fixed}
+use Rattle.descents.specs.declared.Descent.{Descent}
+use Rattle.descents.specs.Descents.{searching, byFunction, byStep, bySearch, byGradientFailed, atHead, inPhase, withLine, valuedAt}
+use Rattle.descents.specs.Formulas.{storesOf, smallDecreaseOf, smallStepOf}
+use Rattle.rounds.specs.Rounds.{headedOf}
+use Rattle.quasinewton.specs.Step.{moved, storedOf, succeededOf, settledOf, storesPairOf, updatedOf, modelAfterOf, arrivedOf, onwardOf}
+use Rattle.outcomes.specs.Outcomes.{lowerOf, missedOf, steppedOf, pairStepOf, pairChangeOf, testedOf}
 
 module _ (fixed : Fixed) (fevals : ℕ) where
   -- on through the head, where the record is at one

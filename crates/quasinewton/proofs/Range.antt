@@ -3,9 +3,10 @@ use mathlib.Core.Bool.{Bool, true, false, cond}
 use Rattle.hessian.specs.declared.Model.{Model}
 use Rattle.hessian.specs.Step.{InRange, FewPairs}
 use Rattle.hessian.proofs.Range.{range-few, update-few}
-use Rattle.quasinewton.specs.declared.Fixed.{Fixed}
-use Rattle.quasinewton.specs.declared.Descent.{Descent}
-use Rattle.quasinewton.specs.Step.{pairStepOf, pairChangeOf, storesPairOf, updatedOf, modelAfterOf}
+use Rattle.descents.specs.declared.Fixed.{Fixed}
+use Rattle.descents.specs.declared.Descent.{Descent}
+use Rattle.outcomes.specs.Outcomes.{pairStepOf, pairChangeOf}
+use Rattle.quasinewton.specs.Step.{storesPairOf, updatedOf, modelAfterOf}
 
 pub updated-few : (fixed : Fixed) (q : Descent) (m : Model) → InRange m → FewPairs (updatedOf fixed q m)
 unfolding updatedOf

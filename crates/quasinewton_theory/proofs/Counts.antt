@@ -28,9 +28,9 @@ use Rattle.protocol.specs.Fits.{fits}
 use Rattle.protocol.proofs.Bounds.{costs-more, costs-bind, cond-costs, keeps-by-cost, all-questions, questions-at-most}
 use Rattle.protocol.proofs.FitsBounds.{bfgs-bounds, lbfgs-bounds}
 use Rattle.objective.specs.Algorithm.{evalGradient}
-use Rattle.hessian.specs.Algorithm.{direction}
-use Rattle.linesearch.specs.declared.Evaluation.{Evaluation}
-use Rattle.linesearch.specs.declared.Line.{Line}
+use Rattle.hessian_theory.specs.Algorithm.{direction}
+use Rattle.trials.specs.declared.Evaluation.{Evaluation}
+use Rattle.trials.specs.declared.Line.{Line}
 use Rattle.linesearch_theory.specs.Algorithm.{Searched, refuses, gives, search, wolfeRefusal, lineFrom, strongWolfe}
 use Rattle.linesearch_theory.specs.Counts.{perGradient, perTrial}
 use Rattle.linesearch_theory.proofs.Counts.{counts as search-counts}

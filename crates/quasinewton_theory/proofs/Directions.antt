@@ -12,10 +12,10 @@ use Rattle.float.proofs.Closed.{closed}
 use Rattle.vector.specs.Lists.{dot, matVec, negation, scaled, plusScaled, minusScaled}
 use Rattle.vector.proofs.Loops.{length-upto}
 use Rattle.protocol.specs.Claim.{F64s}
-use Rattle.hessian.specs.declared.Pair.{Pair}
-use Rattle.hessian.specs.Algorithm.{InvHessian, dense, limited, Falling, one, diagonal, newDense, newMemory, newHessian, denseDirection, rankTwo, denseUpdate, fall, rise, rises, limitedDirection, limitedUpdate, direction, update}
-use Rattle.hessian.specs.Ties.{Words}
-use Rattle.hessian.proofs.Words.{hessian-words}
+use Rattle.limited_hessian.specs.declared.Pair.{Pair}
+use Rattle.hessian_theory.specs.Algorithm.{InvHessian, dense, limited, Falling, one, diagonal, newDense, newMemory, newHessian, denseDirection, rankTwo, denseUpdate, fall, rise, rises, limitedDirection, limitedUpdate, direction, update}
+use Rattle.hessian_theory.specs.Ties.{Words}
+use Rattle.hessian_theory.proofs.Words.{hessian-words}
 use Rattle.quasinewton_theory.specs.Laws.{PairsLong, Shaped, DirectionLaws}
 
 -- ---- lengths

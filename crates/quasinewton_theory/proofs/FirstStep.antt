@@ -20,7 +20,7 @@ use Rattle.float.proofs.Order.{not-lt→le}
 use Rattle.vector.specs.Lists.{infNorm, allFinite}
 use Rattle.protocol.specs.Claim.{F64s}
 use Rattle.protocol.proofs.Replies.{true-T, and-left, not-above-self}
-use Rattle.hessian.specs.Algorithm.{one}
+use Rattle.hessian_theory.specs.Algorithm.{one}
 use Rattle.quasinewton_theory.specs.Algorithm.{initialStep}
 
 false-T : (b : Bool) → b ≡ false → T (not b)

@@ -19,16 +19,16 @@ use Rattle.objective.specs.Follows as differences
 use Rattle.objective.proofs.Follows.{follows as differences-follow}
 use Rattle.hessian.specs.declared.Model.{Model}
 use Rattle.hessian.specs.Step.{updateOf}
-use Rattle.hessian.specs.Ties as hessian
-use Rattle.hessian.proofs.Ties.{hessian-ties}
-use Rattle.linesearch.specs.declared.Evaluation.{Evaluation}
-use Rattle.linesearch.specs.declared.Line.{Line}
-use Rattle.linesearch.specs.declared.Search.{Search}
+use Rattle.hessian_theory.specs.Ties as hessian
+use Rattle.hessian_theory.proofs.Ties.{hessian-ties}
+use Rattle.trials.specs.declared.Evaluation.{Evaluation}
+use Rattle.trials.specs.declared.Line.{Line}
+use Rattle.searches.specs.declared.Search.{Search}
 use Rattle.linesearch.specs.Step as linesearch
 use Rattle.linesearch_theory.specs.Follows as searches
 use Rattle.linesearch_theory.proofs.Follows.{search-follows}
-use Rattle.quasinewton.specs.declared.Fixed.{Fixed}
-use Rattle.quasinewton.specs.declared.Descent.{Descent}
+use Rattle.descents.specs.declared.Fixed.{Fixed}
+use Rattle.descents.specs.declared.Descent.{Descent}
 use Rattle.quasinewton.specs.Step as step
 use Rattle.quasinewton.specs.Step.{firstDifferences, searching, searchFixed, zeros, storesOf, smallDecreaseOf, smallStepOf, Moved, storedOf, succeededOf, settledOf, probeOf, toldOf, toldGradientOf, startOf}
 use Rattle.quasinewton_theory.specs.Follows.{wantsGradient, heardOf, Sixteen, Shaped, ZeroPast, GradientFollows}

@@ -22,14 +22,14 @@ use Rattle.objective.specs.Step as objective
 use Rattle.objective.specs.Follows as differences
 use Rattle.objective.proofs.Follows.{follows as differences-follow, told-within}
 use Rattle.hessian.specs.declared.Model.{Model}
-use Rattle.linesearch.specs.declared.Search.{Search}
+use Rattle.searches.specs.declared.Search.{Search}
 use Rattle.linesearch.specs.Step as linesearch
 use Rattle.linesearch.specs.Step.{asksGradient, asksDifference}
 use Rattle.linesearch_theory.specs.Algorithm.{WolfeResult, gives}
 use Rattle.linesearch_theory.specs.Follows as searches
 use Rattle.linesearch_theory.proofs.Follows.{search-follows}
-use Rattle.quasinewton.specs.declared.Fixed.{Fixed}
-use Rattle.quasinewton.specs.declared.Descent.{Descent}
+use Rattle.descents.specs.declared.Fixed.{Fixed}
+use Rattle.descents.specs.declared.Descent.{Descent}
 use Rattle.quasinewton.specs.Step as step
 use Rattle.quasinewton.specs.Step.{firstValue, firstGradient, firstDifferences, searching, inPhase, refusedBy, withLine, withSearch, withDiff, valuedAt, searchFixed, gradedOf, differingOf, valuedOf, probeOf, asksOf, toldOf, toldGradientOf}
 use Rattle.quasinewton_theory.specs.Algorithm.{Position, concluded}

@@ -14,12 +14,12 @@ use Rattle.protocol.specs.Ask.{finish}
 use Rattle.protocol.specs.Rounds.{Ending, stops, Limits}
 use Rattle.hessian.specs.declared.Model.{Model}
 use Rattle.hessian.specs.Step.{updateOf}
-use Rattle.hessian.specs.Ties as hessian
-use Rattle.hessian.proofs.Ties.{hessian-ties}
-use Rattle.linesearch.specs.declared.Evaluation.{Evaluation}
+use Rattle.hessian_theory.specs.Ties as hessian
+use Rattle.hessian_theory.proofs.Ties.{hessian-ties}
+use Rattle.trials.specs.declared.Evaluation.{Evaluation}
 use Rattle.linesearch_theory.specs.Follows as searches
-use Rattle.quasinewton.specs.declared.Fixed.{Fixed}
-use Rattle.quasinewton.specs.declared.Descent.{Descent}
+use Rattle.descents.specs.declared.Fixed.{Fixed}
+use Rattle.descents.specs.declared.Descent.{Descent}
 use Rattle.quasinewton.specs.Step.{byFunction, byStep, bySearch, byGradientFailed, storesOf, smallDecreaseOf, smallStepOf, inPhase, withLine, valuedAt, Moved, moved, lowerOf, missedOf, storedOf, steppedOf, succeededOf}
 use Rattle.quasinewton_theory.specs.Algorithm.{Position, stored, stepped, smallDecrease, smallStep, stopsLower, succeeded}
 use Rattle.quasinewton_theory.specs.Follows.{positionOf, toDo, settled, Allows}

@@ -21,17 +21,17 @@ use Rattle.protocol.specs.Ask.{Ask, finish, _>>=_}
 use Rattle.protocol.specs.Rounds.{Ending, atHead, stops, goOn, stop, Limits, reached}
 use Rattle.protocol.proofs.Texts.{bind-assoc}
 use Rattle.hessian.specs.declared.Model.{Model}
-use Rattle.hessian.specs.Algorithm.{one}
+use Rattle.hessian_theory.specs.Algorithm.{one}
 use Rattle.hessian.specs.Step.{directionOf}
-use Rattle.hessian.specs.Ties as hessian
-use Rattle.hessian.proofs.Ties.{hessian-ties}
-use Rattle.linesearch.specs.declared.Line.{Line}
-use Rattle.linesearch.specs.Start.{lineFromOf, optionsRefusalOf, countsRefusalOf, lineRefusalOf}
+use Rattle.hessian_theory.specs.Ties as hessian
+use Rattle.hessian_theory.proofs.Ties.{hessian-ties}
+use Rattle.trials.specs.declared.Line.{Line}
+use Rattle.trials.specs.Start.{lineFromOf, optionsRefusalOf, countsRefusalOf, lineRefusalOf}
 use Rattle.linesearch_theory.specs.Algorithm.{WolfeResult, Searched, refuses, gives, wolfeRefusal, lineFrom, search, strongWolfe}
 use Rattle.linesearch_theory.specs.Follows as searches
 use Rattle.linesearch_theory.proofs.Follows.{search-follows}
-use Rattle.quasinewton.specs.declared.Fixed.{Fixed}
-use Rattle.quasinewton.specs.declared.Descent.{Descent}
+use Rattle.descents.specs.declared.Fixed.{Fixed}
+use Rattle.descents.specs.declared.Descent.{Descent}
 use Rattle.quasinewton.specs.Step as step
 use Rattle.quasinewton.specs.Step.{byGradient, byIterations, byFevals, inPhase, refusedBy, searchFixed, initialStepOf, notDescendingOf, soughtOf, searchedOf, steepestOf, directedOf, headedOf}
 use Rattle.quasinewton_theory.specs.Algorithm.{Position, concluded, initialStep, searched, notDescending, directed, iterated, round}

@@ -19,15 +19,15 @@ use Rattle.protocol.specs.Rounds as rounds
 use Rattle.protocol.specs.Fits.{mapText, mapVerdict, fits}
 use Rattle.hessian.specs.declared.Model.{Model}
 use Rattle.hessian.specs.Step.{newModelOf}
-use Rattle.hessian.specs.Ties as hessian
-use Rattle.hessian.proofs.Ties.{hessian-ties}
-use Rattle.linesearch.specs.declared.Search.{Search}
+use Rattle.hessian_theory.specs.Ties as hessian
+use Rattle.hessian_theory.proofs.Ties.{hessian-ties}
+use Rattle.searches.specs.declared.Search.{Search}
 use Rattle.linesearch.specs.Step.{asksDifference, found, failed}
 use Rattle.linesearch_theory.specs.Algorithm.{WolfeResult, gives}
 use Rattle.linesearch_theory.specs.Follows as searches
 use Rattle.linesearch_theory.proofs.Follows.{search-follows}
-use Rattle.quasinewton.specs.declared.Fixed.{Fixed}
-use Rattle.quasinewton.specs.declared.Descent.{Descent}
+use Rattle.descents.specs.declared.Fixed.{Fixed}
+use Rattle.descents.specs.declared.Descent.{Descent}
 use Rattle.quasinewton.specs.Step as step
 use Rattle.quasinewton.specs.Step.{firstValue, firstGradient, firstDifferences, searching, byRefusal, inPhase, searchFixed, Moved, moved, missedOf, succeededOf, settledOf, asksOf, startOf}
 use Rattle.quasinewton_theory.specs.Algorithm.{Position, concluded, tests, opened, quasiNewton}

@@ -16,13 +16,13 @@ use Rattle.objective.specs.declared.Differences.{Differences}
 use Rattle.objective.specs.Step as objective
 use Rattle.hessian.specs.declared.Model.{Model}
 use Rattle.hessian.specs.Step.{directionOf}
-use Rattle.linesearch.specs.declared.Evaluation.{Evaluation}
-use Rattle.linesearch.specs.declared.Line.{Line}
-use Rattle.linesearch.specs.declared.Search.{Search}
-use Rattle.linesearch.specs.Start.{lineFromOf, optionsRefusalOf, countsRefusalOf, lineRefusalOf}
+use Rattle.trials.specs.declared.Evaluation.{Evaluation}
+use Rattle.trials.specs.declared.Line.{Line}
+use Rattle.searches.specs.declared.Search.{Search}
+use Rattle.trials.specs.Start.{lineFromOf, optionsRefusalOf, countsRefusalOf, lineRefusalOf}
 use Rattle.linesearch.specs.Step as linesearch
-use Rattle.quasinewton.specs.declared.Fixed.{Fixed}
-use Rattle.quasinewton.specs.declared.Descent.{Descent}
+use Rattle.descents.specs.declared.Fixed.{Fixed}
+use Rattle.descents.specs.declared.Descent.{Descent}
 use Rattle.quasinewton.specs.Step as step
 use Rattle.quasinewton.specs.Step.{firstValue, firstGradient, firstDifferences, searching, byGradient, byFunction, byStep, byIterations, byFevals, bySearch, byGradientFailed, byRefusal, smallDecreaseOf, smallStepOf, initialStepOf, notDescendingOf, inPhase, refusedBy, withLine, withSearch, withDiff, valuedAt, searchFixed, soughtOf, searchedOf, steepestOf, directedOf, headedOf, lowerOf, missedOf, steppedOf, Moved, storedOf, succeededOf, settledOf, gradedOf, differingOf, valuedOf, toldOf, toldGradientOf}
 use Rattle.quasinewton_theory.specs.Follows.{EveryPart}

@@ -13,13 +13,13 @@ use Rattle.protocol.specs.declared.Refusal.{Refusal}
 use Rattle.protocol.specs.Protocol.{readOf}
 use Rattle.hessian.specs.declared.Model.{Model}
 use Rattle.hessian.specs.Step.{directionOf}
-use Rattle.linesearch.specs.declared.Evaluation.{Evaluation}
-use Rattle.linesearch.specs.declared.Line.{Line}
-use Rattle.linesearch.specs.Start.{lineFromOf, optionsRefusalOf, countsRefusalOf, lineRefusalOf}
+use Rattle.trials.specs.declared.Evaluation.{Evaluation}
+use Rattle.trials.specs.declared.Line.{Line}
+use Rattle.trials.specs.Start.{lineFromOf, optionsRefusalOf, countsRefusalOf, lineRefusalOf}
 use Rattle.linesearch.specs.Step as linesearch
 use Rattle.linesearch_theory.proofs.Follows.{search-follows}
-use Rattle.quasinewton.specs.declared.Fixed.{Fixed}
-use Rattle.quasinewton.specs.declared.Descent.{Descent}
+use Rattle.descents.specs.declared.Fixed.{Fixed}
+use Rattle.descents.specs.declared.Descent.{Descent}
 use Rattle.quasinewton.specs.Step as step
 use Rattle.quasinewton.specs.Step.{searching, byGradient, byFunction, byStep, byIterations, byFevals, bySearch, byGradientFailed, byRefusal, smallDecreaseOf, smallStepOf, initialStepOf, notDescendingOf, inPhase, refusedBy, withLine, valuedAt, searchFixed, Moved, moved, soughtOf, searchedOf, steepestOf, directedOf, headedOf, lowerOf, missedOf, steppedOf, storedOf, succeededOf, settledOf, startOf}
 use Rattle.quasinewton_theory.specs.Follows.{Shaped, Stands}

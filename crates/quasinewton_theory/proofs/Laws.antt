@@ -25,8 +25,8 @@ use Rattle.protocol.proofs.Texts.{wp-bind, wp-map, wp-grows}
 use Rattle.protocol.proofs.Replies.{true-T, and-right, not-above-self}
 use Rattle.protocol.proofs.Verdicts.{stop≢restart, go-on≢restart, go-on≢stop, stop-inj}
 use Rattle.objective.specs.Algorithm.{evalGradient}
-use Rattle.hessian.specs.Algorithm.{one, InvHessian, direction, update, newHessian}
-use Rattle.linesearch.specs.declared.Evaluation.{Evaluation}
+use Rattle.hessian_theory.specs.Algorithm.{one, InvHessian, direction, update, newHessian}
+use Rattle.trials.specs.declared.Evaluation.{Evaluation}
 use Rattle.linesearch_theory.specs.Algorithm.{WolfeResult, gives}
 use Rattle.linesearch_theory.specs.Laws.{ValueTold, Heard}
 use Rattle.linesearch_theory.proofs.LawsTold.{told-grows, heard-finite}

@@ -20,9 +20,9 @@ use Rattle.protocol.specs.Ask.{Ask, finish, query, _>>=_, wp, Grows}
 use Rattle.protocol.specs.Rounds.{Ending, fails}
 use Rattle.protocol.proofs.Texts.{bind-assoc, wp-map, wp-grows}
 use Rattle.protocol.proofs.Replies.{true-T, and-left, and-right}
-use Rattle.hessian.specs.Algorithm.{one}
-use Rattle.linesearch.specs.declared.Evaluation.{Evaluation}
-use Rattle.linesearch.specs.declared.Line.{Line}
+use Rattle.hessian_theory.specs.Algorithm.{one}
+use Rattle.trials.specs.declared.Evaluation.{Evaluation}
+use Rattle.trials.specs.declared.Line.{Line}
 use Rattle.linesearch_theory.specs.Algorithm.{WolfeResult, refuses, gives, search, wolfeRefusal, lineFrom, strongWolfe}
 use Rattle.linesearch_theory.specs.Laws.{EvaluationTold, Descending}
 use Rattle.linesearch_theory.proofs.Laws.{search-laws}

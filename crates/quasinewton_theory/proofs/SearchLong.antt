@@ -17,8 +17,8 @@ use Rattle.protocol.specs.Claim.{Exchange}
 use Rattle.protocol.specs.Ask.{Ask, finish, _>>=_, wp}
 use Rattle.protocol.proofs.Texts.{wp-bind, wp-map}
 use Rattle.objective.specs.Algorithm.{slopeAt, differencesFrom, evalGradient}
-use Rattle.linesearch.specs.declared.Evaluation.{Evaluation}
-use Rattle.linesearch.specs.declared.Line.{Line}
+use Rattle.trials.specs.declared.Evaluation.{Evaluation}
+use Rattle.trials.specs.declared.Line.{Line}
 use Rattle.linesearch_theory.specs.Algorithm.{WolfeResult, pointAt, evaluated, eval, lower, keep, bestOrStart, start, search}
 use Rattle.linesearch_theory.proofs.LawsInduction.{Invariant, search-holds}
 use Rattle.quasinewton_theory.proofs.Directions.{zip-long}

@@ -16,8 +16,8 @@ use Rattle.protocol.specs.Protocol.{readOf}
 use Rattle.protocol.specs.Ask.{Ask, finish, askValue, _>>=_}
 use Rattle.protocol.specs.Rounds.{Ending, atHead, stops, fails, Verdict, goOn, stop, Rounds}
 use Rattle.objective.specs.Algorithm.{evalGradient}
-use Rattle.hessian.specs.Algorithm.{one, InvHessian, newHessian, direction, update}
-use Rattle.linesearch.specs.declared.Evaluation.{Evaluation}
+use Rattle.hessian_theory.specs.Algorithm.{one, InvHessian, newHessian, direction, update}
+use Rattle.trials.specs.declared.Evaluation.{Evaluation}
 use Rattle.linesearch_theory.specs.Algorithm.{WolfeResult, Searched, refuses, gives, strongWolfe}
 
 -- ---- the head of a round

@@ -26,13 +26,13 @@ use Rattle.objective.specs.Algorithm.{evalGradient}
 use Rattle.objective.specs.Follows as differences
 use Rattle.hessian.specs.declared.Model.{Model}
 use Rattle.hessian.specs.Step.{newModelOf}
-use Rattle.hessian.specs.Ties as hessian
-use Rattle.linesearch.specs.declared.Search.{Search}
+use Rattle.hessian_theory.specs.Ties as hessian
+use Rattle.searches.specs.declared.Search.{Search}
 use Rattle.linesearch.specs.Step.{asksGradient, asksDifference}
 use Rattle.linesearch_theory.specs.Algorithm.{gives}
 use Rattle.linesearch_theory.specs.Follows as search
-use Rattle.quasinewton.specs.declared.Fixed.{Fixed}
-use Rattle.quasinewton.specs.declared.Descent.{Descent}
+use Rattle.descents.specs.declared.Fixed.{Fixed}
+use Rattle.descents.specs.declared.Descent.{Descent}
 use Rattle.quasinewton.specs.Step as step
 use Rattle.quasinewton.specs.Step.{firstValue, firstGradient, firstDifferences, searching, byGradient, byFunction, byStep, byIterations, byFevals, bySearch, byRefusal, searchFixed, probeOf, asksOf, settledOf, toldOf, toldGradientOf, startOf}
 use Rattle.quasinewton_theory.specs.Algorithm.{Position, concluded, tests, round, opened, quasiNewton}

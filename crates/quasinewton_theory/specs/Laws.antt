@@ -17,8 +17,8 @@ use Rattle.protocol.specs.Claim.{Exchange, F64s}
 use Rattle.protocol.specs.Ask.{wp}
 use Rattle.protocol.specs.Rounds.{Ending, atHead, stops, fails}
 use Rattle.protocol.specs.RoundsLaws.{Own, Begins, RoundsLaws}
-use Rattle.hessian.specs.declared.Pair.{Pair}
-use Rattle.hessian.specs.Algorithm.{one, InvHessian, dense, limited, direction, update, newHessian}
+use Rattle.limited_hessian.specs.declared.Pair.{Pair}
+use Rattle.hessian_theory.specs.Algorithm.{one, InvHessian, dense, limited, direction, update, newHessian}
 use Rattle.linesearch_theory.specs.Laws.{ValueTold}
 use Rattle.quasinewton_theory.specs.Algorithm.{Position, initialStep, notDescending, round, opened, quasiNewton}
 

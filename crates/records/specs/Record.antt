@@ -10,12 +10,12 @@ use Rattle.protocol.specs.declared.WolfeOptions.{WolfeOptions}
 use Rattle.protocol.specs.declared.GradientOptions.{GradientOptions}
 use Rattle.protocol.specs.Protocol.{Reply, replyOf}
 use Rattle.objective.specs.Step.{begunOf}
-use Rattle.linesearch.specs.declared.Fixed as linesearchFixed
+use Rattle.trials.specs.declared.Fixed as linesearchFixed
 use Rattle.linesearch.specs.Step.{failed}
 use Rattle.hessian.specs.declared.Model.{Model}
 use Rattle.hessian.specs.Step.{InRange, blankOf as blankModel}
-use Rattle.quasinewton.specs.declared.Descent.{Descent}
-use Rattle.quasinewton.specs.declared.Fixed as quasinewtonFixed
+use Rattle.descents.specs.declared.Descent.{Descent}
+use Rattle.descents.specs.declared.Fixed as quasinewtonFixed
 use Rattle.quasinewton.specs.Step.{searching, byRefusal, idleOf as idleDescent}
 use Rattle.vertices.specs.declared.Vertex.{Vertex}
 use Rattle.neldermead.specs.declared.Fixed.{Fixed}

@@ -13,12 +13,12 @@ use Rattle.protocol.specs.declared.Said.the-variants.{Ask, Fitted, Searched, Di
 use Rattle.protocol.specs.Protocol.{Reply, replyOf}
 use Rattle.objective.specs.declared.Differences.{Differences}
 use Rattle.objective.specs.Step.{probeOf}
-use Rattle.linesearch.specs.declared.Fixed as linesearchFixed
-use Rattle.linesearch.specs.declared.Line.{Line}
-use Rattle.linesearch.specs.declared.Search.{Search}
+use Rattle.trials.specs.declared.Fixed as linesearchFixed
+use Rattle.trials.specs.declared.Line.{Line}
+use Rattle.searches.specs.declared.Search.{Search}
 use Rattle.linesearch.specs.Step as linesearch
-use Rattle.quasinewton.specs.declared.Fixed as quasinewtonFixed
-use Rattle.quasinewton.specs.declared.Descent.{Descent}
+use Rattle.descents.specs.declared.Fixed as quasinewtonFixed
+use Rattle.descents.specs.declared.Descent.{Descent}
 use Rattle.quasinewton.specs.Step as quasinewton
 use Rattle.vertices.specs.declared.Vertex.{Vertex}
 use Rattle.neldermead.specs.Step.{byTolerance, notFinite}

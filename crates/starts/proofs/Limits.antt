@@ -11,7 +11,7 @@ use Rattle.protocol.specs.declared.WolfeOptions.{WolfeOptions}
 use Rattle.protocol.specs.declared.GradientOptions.{GradientOptions}
 use Rattle.protocol.specs.declared.Allowances.{Allowances}
 use Rattle.protocol.specs.Protocol.{refusal, noRefusal}
-use Rattle.linesearch.specs.Start.{optionsRefusalOf, countsRefusalOf}
+use Rattle.trials.specs.Start.{optionsRefusalOf, countsRefusalOf}
 use Rattle.starts.specs.Starts.{excessOf, pastLimitsOf, simplexRefusalOf, searchPastLimitsOf, searchRefusalOf, gradientPastLimitsOf, gradientRefusalOf}
 
 -- a chain of tests that is false has met none

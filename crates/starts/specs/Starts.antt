@@ -16,12 +16,12 @@ use Rattle.protocol.specs.declared.GradientOptions.{GradientOptions}
 use Rattle.protocol.specs.declared.Refusal.{Refusal}
 use Rattle.protocol.specs.Protocol.{refusal, noRefusal}
 use Rattle.objective.specs.Step.{begunOf}
-use Rattle.linesearch.specs.declared.Line.{Line}
-use Rattle.linesearch.specs.Start.{optionsRefusalOf, countsRefusalOf}
-use Rattle.linesearch.specs.Trials.{one}
+use Rattle.trials.specs.declared.Line.{Line}
+use Rattle.trials.specs.Start.{optionsRefusalOf, countsRefusalOf}
+use Rattle.trials.specs.Trials.{one}
 use Rattle.linesearch.specs.Step as linesearch
 use Rattle.hessian.specs.Step.{blankOf as blankModel, newModelOf}
-use Rattle.quasinewton.specs.declared.Descent.{Descent}
+use Rattle.descents.specs.declared.Descent.{Descent}
 use Rattle.quasinewton.specs.Step.{searching, idleOf as idleDescent, startOf as quasinewtonStart}
 use Rattle.neldermead.specs.Step.{startOf}
 use Rattle.records.specs.declared.Limits.{Limits}

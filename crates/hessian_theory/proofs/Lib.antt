@@ -1,0 +1,5 @@
+pub mod Places
+pub mod TiesDense
+pub mod TiesLimited
+pub mod Ties
+pub mod Words

@@ -1,0 +1,1 @@
+// No code: the models over lists as the Rust has them, and that the code's are these.

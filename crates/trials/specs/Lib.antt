@@ -1,0 +1,4 @@
+pub mod Cubic
+pub mod Trials
+pub mod Start
+pub mod Evaluations
