@@ -18,10 +18,11 @@ use Rattle.protocol.specs.declared.Kind.the-variants.{Value, Gradient}
 use Rattle.protocol.specs.declared.Termination.{Termination}
 use Rattle.protocol.specs.declared.Termination.the-variants.{GradientTolerance, SimplexTolerance, StepTolerance, FunctionTolerance, MaxIterations, MaxFevals, LineSearchFailed, GradientFailed, ObjectiveResolution}
 use Rattle.protocol.specs.Protocol.{letter, Question, Answer, Result}
-use Rattle.text.specs.Forms.{most, digitOf, digits, below, spelt, same, formed, wordField, decimalField, letterField, fieldAs, shapeAtOf, fieldsFrom, fields, readingsFrom, readings, allOk}
-use Rattle.text.specs.Lines.{valueIn, answerLine}
-use Rattle.text.proofs.Sums.{by}
-use Rattle.text.proofs.Pieces.{same-self}
+use Rattle.fields.specs.Shapes.{most, digitOf, digits, below, spelt, same, formed, wordField, decimalField, letterField, fieldAs}
+use Rattle.reader.specs.Forms.{shapeAtOf, fieldsFrom, fields, readingsFrom, readings, allOk}
+use Rattle.forms.specs.Lines.{valueIn, answerLine}
+use Rattle.text_theory.proofs.Sums.{by}
+use Rattle.text_theory.proofs.Pieces.{same-self}
 use Rattle.lines.specs.Print.{glyphOf, numeral, placesFrom, placesOf, decimalText, valueText, valuesText, reasonText, flagText, answerText, askText, endBefore, endText}
 use Rattle.lines.specs.ReadBack.{reasonAmong, reasonField, yesField, resultIn, endFields, endLine, AllF64, Printable, echoOf, ReadBackLaws}
 use Rattle.lines.proofs.Writes.{length-numeral}

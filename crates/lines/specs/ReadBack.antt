@@ -10,9 +10,10 @@ use Rattle.protocol.specs.declared.Termination.{Termination}
 use Rattle.protocol.specs.declared.Termination.the-variants.{GradientTolerance, SimplexTolerance, StepTolerance, FunctionTolerance, MaxIterations, MaxFevals, LineSearchFailed, GradientFailed, ObjectiveResolution}
 use Rattle.protocol.specs.declared.Kind.{Kind}
 use Rattle.protocol.specs.Protocol.{letter, Question, Answer, Result}
-use Rattle.text.specs.declared.Reading.{Reading}
-use Rattle.text.specs.Forms.{most, fields, same, wordField, decimalField, allOk}
-use Rattle.text.specs.Lines.{given, valueIn, answerLine}
+use Rattle.fields.specs.declared.Reading.{Reading}
+use Rattle.fields.specs.Shapes.{most, same, wordField, decimalField}
+use Rattle.reader.specs.Forms.{fields, allOk}
+use Rattle.forms.specs.Lines.{given, valueIn, answerLine}
 use Rattle.lines.specs.Print.{reasonText, flagText, answerText, askText, endBefore, endText}
 
 -- ---- an `end` line

@@ -23,7 +23,7 @@ use Rattle.starts.proofs.Limits.{simplex-limits, gradient-limits}
 use Rattle.optim.specs.Answer.{repeatsOf, suitsOf, steppedOf, gradedOf, takenOf, takenGradientOf, heardOf, answerOf}
 use Rattle.optim.specs.Start.{simplexOf, gradientOf, bfgsOf, lbfgsOf}
 use Rattle.optim.proofs.Ranges.{ranges}
-use Rattle.text.proofs.Sums.{by}
+use Rattle.text_theory.proofs.Sums.{by}
 use Rattle.talk.specs.declared.State.{State}
 use Rattle.talk.specs.Talk.{Few, startOf}
 

@@ -6,9 +6,10 @@ use mathlib.Core.List.{List, [], _∷_}
 use native.Mathlib.Omega.{arith}
 use lib.Dec.{eqb}
 use lib.ListN.{length}
-use Rattle.text.specs.declared.Reading.{Reading}
-use Rattle.text.specs.Forms.{same, malformed, formed, fields, capped, readingsFrom, allOk, firsts, fieldAs, shapeAtOf, jobField, lineOf}
-use Rattle.text.specs.Lines.{numberAt, firstLineOf, wholeOf}
+use Rattle.fields.specs.declared.Reading.{Reading}
+use Rattle.fields.specs.Shapes.{same, malformed, formed, fieldAs, jobField}
+use Rattle.reader.specs.Forms.{fields, capped, readingsFrom, allOk, firsts, shapeAtOf, lineOf}
+use Rattle.forms.specs.Lines.{numberAt, firstLineOf, wholeOf}
 use Rattle.talk.specs.Talk.{line1}
 use Rattle.talk.specs.Laws.{Job}
 

@@ -6,11 +6,11 @@ use lib.ListN.{length}
 use lib.Dec.{ltb}
 use borrow.Author.Tests.{ltb-true}
 use Rattle.vector.proofs.Loops.{length-upto}
-use Rattle.text.specs.declared.AnswerLine.{AnswerLine}
-use Rattle.text.specs.declared.Line.{Line}
-use Rattle.text.specs.declared.PointLine.{PointLine}
-use Rattle.text.specs.Lines.{valueAt, wordsOf, wordCountOf, pointLineOf, answerLineOf}
-use Rattle.text.proofs.Sums.{by}
+use Rattle.forms.specs.declared.AnswerLine.{AnswerLine}
+use Rattle.reader.specs.declared.Line.{Line}
+use Rattle.forms.specs.declared.PointLine.{PointLine}
+use Rattle.forms.specs.Lines.{valueAt, wordsOf, wordCountOf, pointLineOf, answerLineOf}
+use Rattle.text_theory.proofs.Sums.{by}
 use Rattle.talk.specs.Talk.{keptOf}
 
 kept-most : (n : ℕ) → keptOf n ≤ 17

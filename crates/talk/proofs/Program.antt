@@ -5,12 +5,12 @@ use mathlib.Core.Bool.{Bool, true, false, not, cond}
 use mathlib.Core.List.{List, [], _∷_, _++_, append-nil, append-assoc}
 use native.Mathlib.Omega.{arith}
 use lib.Dec.{eqb}
-use Rattle.text.specs.declared.Line.{Line}
-use Rattle.text.specs.declared.Reader.{Reader}
-use Rattle.text.specs.Forms.{empty, lineOf}
-use Rattle.text.specs.Reader.{startedOf, fedOf, fedAll, finishedOf, begunOf as lineBegun}
-use Rattle.text.proofs.Sums.{by}
-use Rattle.text.proofs.Whole.{reader-laws}
+use Rattle.reader.specs.declared.Line.{Line}
+use Rattle.reader.specs.declared.Reader.{Reader}
+use Rattle.reader.specs.Forms.{empty, lineOf}
+use Rattle.reader.specs.Reader.{startedOf, fedOf, fedAll, finishedOf, begunOf as lineBegun}
+use Rattle.text_theory.proofs.Sums.{by}
+use Rattle.text_theory.proofs.Whole.{reader-laws}
 use Rattle.talk.specs.declared.Place.{Place}
 use Rattle.talk.specs.declared.Scan.{Scan}
 use Rattle.talk.specs.declared.State.{State}

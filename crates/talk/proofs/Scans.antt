@@ -7,8 +7,8 @@ use native.Mathlib.Numerals.{add-one}
 use lib.ListN.{length, drop, getD, drop-of-length-le}
 use lib.Seq.{drop-cons}
 use lib.Dec.{eqb}
-use Rattle.text.specs.declared.Reader.{Reader}
-use Rattle.text.specs.Reader.{fedOf}
+use Rattle.reader.specs.declared.Reader.{Reader}
+use Rattle.reader.specs.Reader.{fedOf}
 use Rattle.talk.specs.Program.{scannedOf}
 
 pub scan-feed : (s : List ℕ) (i : ℕ) (r : Reader) → i < length s → eqb (getD s i 0) 10 ≡ true → record { at = i + 1; ended = true; reader = r } ≡ scannedOf i (drop i s) r

@@ -15,7 +15,7 @@ use Rattle.protocol.specs.declared.Said.{Said}
 use Rattle.protocol.specs.declared.Said.the-variants.{Ask, Fitted, Searched, Differenced, Refused}
 use Rattle.protocol.specs.Protocol.{Question, Result, replyOf}
 use Rattle.lines.specs.Print.{filled, limitedOf, questionOf, resultOf, askText, endText, noText}
-use Rattle.text.proofs.Sums.{by}
+use Rattle.text_theory.proofs.Sums.{by}
 use Rattle.talk.specs.Talk.{Few, replyText}
 
 limited-is : (n : ℕ) → n ≤ 16 → limitedOf n ≡ n

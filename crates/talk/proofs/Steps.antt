@@ -7,9 +7,9 @@ use native.Mathlib.Omega.{arith}
 use lib.Dec.{eqb}
 use lib.ListN.{length, drop, getD, drop-of-length-le}
 use lib.Seq.{drop-cons, drop-drop}
-use Rattle.text.specs.declared.Reader.{Reader}
-use Rattle.text.specs.Reader.{fedOf}
-use Rattle.text.proofs.Sums.{by}
+use Rattle.reader.specs.declared.Reader.{Reader}
+use Rattle.reader.specs.Reader.{fedOf}
+use Rattle.text_theory.proofs.Sums.{by}
 use Rattle.talk.specs.declared.Place.{Place}
 use Rattle.talk.specs.Program.{scannedOf, passedOf, stepOf}
 use Rattle.talk.proofs.Program.{scan-at, program-laws}

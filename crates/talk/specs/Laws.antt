@@ -5,9 +5,9 @@ use mathlib.Core.Bool.{true}
 use mathlib.Core.List.{List, [], _++_}
 use lib.ListN.{drop}
 use Rattle.records.specs.Record.{simplexMark, lbfgsMark}
-use Rattle.text.specs.declared.Reader.{Reader}
-use Rattle.text.specs.Forms.{lineOf}
-use Rattle.text.specs.Lines.{firstLineOf}
+use Rattle.reader.specs.declared.Reader.{Reader}
+use Rattle.reader.specs.Forms.{lineOf}
+use Rattle.forms.specs.Lines.{firstLineOf}
 use Rattle.talk.specs.declared.Place.{Place}
 use Rattle.talk.specs.declared.Scan.{Scan}
 use Rattle.talk.specs.declared.State.{State}

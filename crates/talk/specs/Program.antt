@@ -5,9 +5,9 @@ use mathlib.Core.Bool.{true, false, cond}
 use mathlib.Core.List.{List, [], _∷_, _++_}
 use lib.Dec.{eqb}
 use lib.ListN.{length}
-use Rattle.text.specs.declared.Reader.{Reader}
-use Rattle.text.specs.Forms.{lineOf}
-use Rattle.text.specs.Reader.{startedOf, fedOf, finishedOf, begunOf as lineBegun}
+use Rattle.reader.specs.declared.Reader.{Reader}
+use Rattle.reader.specs.Forms.{lineOf}
+use Rattle.reader.specs.Reader.{startedOf, fedOf, finishedOf, begunOf as lineBegun}
 use Rattle.lines.specs.Print.{filled}
 use Rattle.talk.specs.declared.Place.{Place}
 use Rattle.talk.specs.declared.Scan.{Scan}

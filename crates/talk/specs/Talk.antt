@@ -12,9 +12,10 @@ use Rattle.records.specs.declared.Record.{Record}
 use Rattle.records.specs.Record.{blankOf, noOptions, wolfeOptionsOf, noGradientOptions, simplexMark, bfgsMark}
 use Rattle.optim.specs.Start.{simplexOf, bfgsOf, lbfgsOf}
 use Rattle.optim.specs.Answer.{answerOf}
-use Rattle.text.specs.declared.Line.{Line}
-use Rattle.text.specs.Forms.{most}
-use Rattle.text.specs.Lines.{firstLineOf, simplexLineOf, gradientLineOf, pointLineOf, answerLineOf}
+use Rattle.reader.specs.declared.Line.{Line}
+use Rattle.fields.specs.Shapes.{most}
+use Rattle.forms.specs.Lines.{firstLineOf, pointLineOf, answerLineOf}
+use Rattle.text.specs.Options.{simplexLineOf, gradientLineOf}
 use Rattle.lines.specs.Print.{filled, askText, endText, noText, badText}
 use Rattle.talk.specs.declared.State.{State}
 use Rattle.talk.specs.declared.Turn.{Turn}

@@ -5,7 +5,7 @@ use native.Mathlib.Omega.{arith}
 use lib.ListN.{length, drop, getD}
 use borrow.Author.Needs.{needs}
 use borrow.Author.Tests.{eq-eqb, ne-eqb}
-use Rattle.text.specs.declared.Reader.{Reader}
+use Rattle.reader.specs.declared.Reader.{Reader}
 use Rattle.talk.specs.Program.{scannedOf}
 use Rattle.talk.proofs.Scans.{scan-feed, scan-go, scan-end}
 use Rattle.talk.proofs.scanned.Statement.{statement}
