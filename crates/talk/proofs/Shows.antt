@@ -14,7 +14,8 @@ use Rattle.protocol.specs.declared.Summary.{Summary}
 use Rattle.protocol.specs.declared.Said.{Said}
 use Rattle.protocol.specs.declared.Said.the-variants.{Ask, Fitted, Searched, Differenced, Refused}
 use Rattle.protocol.specs.Protocol.{Question, Result, replyOf}
-use Rattle.lines.specs.Print.{filled, limitedOf, questionOf, resultOf, askText, endText, noText}
+use Rattle.buffer.specs.Texts.{filled}
+use Rattle.lines.specs.Print.{limitedOf, questionOf, resultOf, askText, endText, noText}
 use Rattle.text_theory.proofs.Sums.{by}
 use Rattle.talk.specs.Talk.{Few, replyText}
 

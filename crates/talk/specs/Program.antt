@@ -8,7 +8,7 @@ use lib.ListN.{length}
 use Rattle.reader.specs.declared.Reader.{Reader}
 use Rattle.reader.specs.Forms.{lineOf}
 use Rattle.reader.specs.Reader.{startedOf, fedOf, finishedOf, begunOf as lineBegun}
-use Rattle.lines.specs.Print.{filled}
+use Rattle.buffer.specs.Texts.{filled}
 use Rattle.talk.specs.declared.Place.{Place}
 use Rattle.talk.specs.declared.Scan.{Scan}
 use Rattle.talk.specs.declared.State.{State}

@@ -16,7 +16,8 @@ use Rattle.reader.specs.declared.Line.{Line}
 use Rattle.fields.specs.Shapes.{most}
 use Rattle.forms.specs.Lines.{firstLineOf, pointLineOf, answerLineOf}
 use Rattle.text.specs.Options.{simplexLineOf, gradientLineOf}
-use Rattle.lines.specs.Print.{filled, askText, endText, noText, badText}
+use Rattle.buffer.specs.Texts.{filled}
+use Rattle.lines.specs.Print.{askText, endText, noText, badText}
 use Rattle.talk.specs.declared.State.{State}
 use Rattle.talk.specs.declared.Turn.{Turn}
 

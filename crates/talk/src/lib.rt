@@ -12,7 +12,7 @@ use text::Reader;
 ghost use mathlib.Core.Path.{_≡_};
 ghost use mathlib.Core.List.{[]};
 ghost use lib.ListN.{drop, length};
-ghost use Rattle.lines.specs.Print.{filled};
+ghost use Rattle.buffer.specs.Texts.{filled};
 ghost use Rattle.records.specs.Record.{outcomeOf};
 ghost use Rattle.talk.specs.Program.{scannedOf, byBytes, firstPlace, Stepped};
 ghost use Rattle.talk.specs.Talk.{replyText, Few, Turned, begunOf, followingOf, dueAfter, keptOf, badOf, formAfter, firstOf, secondOf, secondGradientOf, startOf, startedOf, thirdOf, toldOf, heardOf, decidedOf};
