@@ -1,3 +1,2 @@
 pub mod Talk
 pub mod Program
-pub mod Laws

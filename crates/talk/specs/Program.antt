@@ -1,19 +1,20 @@
 -- What the fit program prints for a whole input: by lines, as 01 has it, and by bytes, as the program goes. Definitions only.
-use Prim.Native.Nat.{ℕ, _+_}
+use Prim.Native.Nat.{ℕ}
 use mathlib.Core.Path.{_≡_}
-use mathlib.Core.Bool.{true, false, cond}
+use mathlib.Core.Bool.{cond}
 use mathlib.Core.List.{List, [], _∷_, _++_}
 use lib.Dec.{eqb}
 use lib.ListN.{length}
-use Rattle.text.specs.declared.Reader.{Reader}
-use Rattle.text.specs.Forms.{lineOf}
-use Rattle.text.specs.Reader.{startedOf, fedOf, finishedOf, begunOf as lineBegun}
-use Rattle.lines.specs.Print.{filled}
+use Rattle.reader.specs.declared.Reader.{Reader}
+use Rattle.reader.specs.Forms.{lineOf}
+use Rattle.reader.specs.Reader.{startedOf, fedOf, finishedOf, begunOf as lineBegun}
+use Rattle.buffer.specs.Texts.{filled}
+use Rattle.states.specs.declared.Scan.{Scan}
+use Rattle.states.specs.declared.State.{State}
+use Rattle.states.specs.States.{begunOf, scannedOf}
 use Rattle.talk.specs.declared.Place.{Place}
-use Rattle.talk.specs.declared.Scan.{Scan}
-use Rattle.talk.specs.declared.State.{State}
 use Rattle.talk.specs.declared.Step.{Step}
-use Rattle.talk.specs.Talk.{begunOf, decidedOf}
+use Rattle.talk.specs.Talk.{decidedOf}
 
 -- ---- by lines
 
@@ -38,11 +39,6 @@ unfolding begunOf
 outputOf bs = printed begunOf (linesFrom [] bs)
 
 -- ---- by bytes
-
--- bytes of which the first stands at i, fed to a line up to the first line feed, or to their end
-unfoldable pub scannedOf : ℕ → List ℕ → Reader → Scan
-scannedOf i [] r = record { at = i; ended = false; reader = r }
-scannedOf i (b ∷ bs) r = cond (eqb b 10) (record { at = i + 1; ended = true; reader = r }) (scannedOf (i + 1) bs (fedOf r b))
 
 -- what is printed for bytes, from a state and a line as far as it has come
 unfoldable pub byBytes : State → Reader → List ℕ → List ℕ

@@ -1,4 +1,1 @@
-pub mod Forms
-pub mod Reader
-pub mod Lines
-pub mod Laws
+pub mod Options

@@ -6,7 +6,7 @@ use lib.ListN.{length, drop}
 use borrow.Author.Needs.{needs}
 use Rattle.talk.specs.declared.Step.{Step}
 use Rattle.talk.specs.Program.{passedOf, stepOf}
-use Rattle.talk.proofs.Steps.{step-further, step-rest, part-done}
+use Rattle.talk_theory.proofs.Steps.{step-further, step-rest, part-done}
 use Rattle.fit.proofs.fed_part.Statement.{statement}
 use Rattle.fit.proofs.fed_part.Tie as tie
 

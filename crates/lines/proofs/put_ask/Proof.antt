@@ -1,6 +1,6 @@
 -- `lines::put_ask` meets its contract: the parts of the line, one after another, from the start. Assumes nothing.
 use borrow.Author.Needs.{needs}
-use Rattle.lines.proofs.Writes.{then, wrote-is, whole}
+use Rattle.buffer.proofs.Writes.{then, wrote-is, whole}
 use Rattle.lines.proofs.Parts.{ask-line}
 use Rattle.lines.proofs.put_ask.Statement.{statement}
 use Rattle.lines.proofs.put_ask.Tie as tie

@@ -1,7 +1,7 @@
 -- `lines::put_end` meets its contract: the parts of the line, one after another, from the start. Assumes nothing.
 use borrow.Author.Needs.{needs}
 use native.Mathlib.Omega.{arith}
-use Rattle.lines.proofs.Writes.{then, wrote-is, whole}
+use Rattle.buffer.proofs.Writes.{then, wrote-is, whole}
 use Rattle.lines.proofs.Parts.{end-line}
 use Rattle.lines.proofs.put_end.Statement.{statement}
 use Rattle.lines.proofs.put_end.Tie as tie

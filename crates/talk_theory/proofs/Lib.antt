@@ -1,0 +1,3 @@
+pub mod Jobs
+pub mod Program
+pub mod Steps

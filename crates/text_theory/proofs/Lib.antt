@@ -1,0 +1,4 @@
+pub mod Sums
+pub mod Pieces
+pub mod Whole
+pub mod LineLaws
