@@ -1,8 +1,15 @@
 // What the programs that replay a table of the Rust's results share: digits, the bits of values, and
 // the count of rows.
+use buffer::put_byte;
+use buffer::put_decimal;
+use buffer::put_text;
+use libc::STDOUT_FILENO;
 ghost use mathlib.Core.Path.{_≡_};
+ghost use Prim.Native.Nat.{_≤_};
+ghost use lib.ListN.{length};
 ghost use lib.Ieee.{binary64, ofBits, toBits};
-ghost use Rattle.rows.specs.Rows.{digitOf, noneOf, countedOf};
+ghost use Rattle.buffer.specs.Texts.{filled};
+ghost use Rattle.rows.specs.Rows.{digitOf, noneOf, countedOf, reportText};
 
 // What is counted: rows, those that differ, and the first of these.
 pub struct Tally {
@@ -94,11 +101,21 @@ pub fn counted(t: Tally, same: bool) -> Tally
     }
 }
 
+// The line of a replay's end.
+fn put_report(out: &mut [u8; 512], t: Tally) -> usize
+    ensures { λ r. ⌜ (r ≤ length (now (out .exit))) × (r ≡ length (reportText t)) × (now (out .exit) ≡ filled (now (out .entry)) (reportText t)) ⌝ }
+{
+    let a = put_decimal(out, 0, t.rows);
+    let b = put_text(out, a, b" rows, ");
+    let d = put_decimal(out, b, t.differ);
+    let e = put_text(out, d, b" differ, the first is ");
+    let f = put_decimal(out, e, t.first);
+    put_byte(out, f, b'\n')
+}
+
+// Writes that line.
 pub fn report(t: Tally) {
-    io::print_decimal(1, t.rows);
-    io::write_all(1, b" rows, ");
-    io::print_decimal(1, t.differ);
-    io::write_all(1, b" differ, the first is ");
-    io::print_decimal(1, t.first);
-    io::write_all(1, b"\n");
+    let mut out = [0u8; 512];
+    let n = put_report(&mut out, t);
+    io::write_all(STDOUT_FILENO, &out[..n]);
 }
