@@ -120,6 +120,13 @@ fn part(t: Tally, s: &[u8]) -> Tally {
     tally
 }
 
+// Writes the line of the end.
+fn report(t: Tally) {
+    let mut out = [0u8; 512];
+    let n = rows::put_report(&mut out, t);
+    io::write_all(1, &out[..n]);
+}
+
 fn main() {
     // 1,024 rows
     let mut buf = [0u8; 54272];
@@ -134,5 +141,5 @@ fn main() {
             turns = 0;
         }
     }
-    rows::report(tally);
+    report(tally);
 }

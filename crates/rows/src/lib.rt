@@ -3,7 +3,6 @@
 use buffer::put_byte;
 use buffer::put_decimal;
 use buffer::put_text;
-use libc::STDOUT_FILENO;
 ghost use mathlib.Core.Path.{_≡_};
 ghost use Prim.Native.Nat.{_≤_};
 ghost use lib.ListN.{length};
@@ -101,8 +100,8 @@ pub fn counted(t: Tally, same: bool) -> Tally
     }
 }
 
-// The line of a replay's end.
-fn put_report(out: &mut [u8; 512], t: Tally) -> usize
+// The line of a replay's end, put at the start of a lent buffer, and how many bytes it has.
+pub fn put_report(out: &mut [u8; 512], t: Tally) -> usize
     ensures { λ r. ⌜ (r ≤ length (now (out .exit))) × (r ≡ length (reportText t)) × (now (out .exit) ≡ filled (now (out .entry)) (reportText t)) ⌝ }
 {
     let a = put_decimal(out, 0, t.rows);
@@ -111,11 +110,4 @@ fn put_report(out: &mut [u8; 512], t: Tally) -> usize
     let e = put_text(out, d, b" differ, the first is ");
     let f = put_decimal(out, e, t.first);
     put_byte(out, f, b'\n')
-}
-
-// Writes that line.
-pub fn report(t: Tally) {
-    let mut out = [0u8; 512];
-    let n = put_report(&mut out, t);
-    io::write_all(STDOUT_FILENO, &out[..n]);
 }

@@ -1,9 +1,9 @@
--- `rows::report` is safe: it writes the bytes that were put. Assumes nothing.
+-- `fits_sample::report` is safe: it writes the bytes that were put. Assumes nothing.
 use mathlib.Core.Path.{sym}
 use lib.Seq.{length-take-le}
 use borrow.Author.Needs.{needs}
-use Rattle.rows.proofs.report.Statement.{statement}
-use Rattle.rows.proofs.report.Tie as tie
+use Rattle.fits_sample.proofs.report.Statement.{statement}
+use Rattle.fits_sample.proofs.report.Tie as tie
 
 pub report-spec : {M : Type 1} → statement M
 report-spec =
