@@ -80,18 +80,23 @@ fn begin(n: usize) -> [f64; 16]
     x
 }
 
-// The first reply of job 1 (simplex), 2 (bfgs) or else lbfgs, with the Rust's defaults for all options.
-fn started(job: u64, n: usize, gradients: bool) -> Answered
-    requires { ⌜ n ≤ 16 ⌝ }
-{
+// No allowance is given.
+fn unlimited() -> Allowances {
     let none = Allowance {
         given: false,
         count: 0,
     };
-    let all = Allowances {
+    Allowances {
         iter: none,
         fevals: none,
-    };
+    }
+}
+
+// The first reply of job 1 (simplex), 2 (bfgs) or else lbfgs, with the Rust's defaults for all options.
+fn started(job: u64, n: usize, gradients: bool) -> Answered
+    requires { ⌜ n ≤ 16 ⌝ }
+{
+    let all = unlimited();
     let x = begin(n);
     if job == 1 {
         let o = SimplexOptions {

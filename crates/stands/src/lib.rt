@@ -24,8 +24,7 @@ const SIMPLEX: u64 = 1;
 const SEARCH: u64 = 4;
 // The last phase of a simplex fit with an open question.
 const LAST_ASKING: u64 = 6;
-// The phases of one that has ended: SimplexTolerance, ObjectiveResolution, MaxIterations, MaxFevals
-// (all others), or refusal 20.
+// Its ends: SimplexTolerance, ObjectiveResolution, MaxIterations, MaxFevals (all others), refusal 20.
 const TOLERANCE: u64 = 7;
 
 const RESOLUTION: u64 = 8;

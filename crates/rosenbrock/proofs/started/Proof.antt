@@ -10,7 +10,7 @@ pub started-spec : {M : Type 1} → statement M
 started-spec =
     tie.close
     (tie.spec
-    (λ c κs. search needs) (λ c. search needs)
+    (λ c κs. search needs) (λ c κs. search needs) (λ c. search needs)
     (λ c. sym (length-take-le _ _ (omega (arith, c .before .before .begin .ensures)))) (λ c κs. search needs)
     (λ c. search needs) (λ c. search needs)
     (λ c. sym (length-take-le _ _ (omega (arith, c .before .before .before .begin .ensures)))) (λ c κs. search needs)
