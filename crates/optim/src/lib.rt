@@ -33,7 +33,7 @@ fn replied(r: Record, why: u64) -> Spoken
 
 // An answer to the open question: its number, its kind's letter, and its words. A refused or repeated
 // answer returns the very record that was passed. One record is kept and parts of it are replaced, so that
-// it is copied no more than its passing asks for.
+// it is copied no more than its passing asks for; a gradient fit that still asks has no use for its model.
 pub fn answer(r: Record, number: u64, kind: u8, words: &[f64]) -> Answered
     ensures { λ a. ⌜ outcomeOf a ≡ answerOf r number kind (now (words .entry)) ⌝ }
 {
