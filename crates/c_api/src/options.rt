@@ -6,21 +6,21 @@ ghost use Rattle.c_api.specs.Options.{toAllowanceOf, toAllowancesOf, toSimplexOf
 
 // An allowance: absent, or a number.
 #[repr(C)]
-#[derive(Drop)]
+#[derive(Clone, Copy)]
 pub struct Allowance {
     pub given: bool,
     pub count: u64,
 }
 
 #[repr(C)]
-#[derive(Drop)]
+#[derive(Clone, Copy)]
 pub struct Allowances {
     pub iter: Allowance,
     pub fevals: Allowance,
 }
 
 #[repr(C)]
-#[derive(Drop)]
+#[derive(Clone, Copy)]
 pub struct SimplexOptions {
     pub xtol: f64,
     pub ftol: f64,
@@ -30,7 +30,7 @@ pub struct SimplexOptions {
 }
 
 #[repr(C)]
-#[derive(Drop)]
+#[derive(Clone, Copy)]
 pub struct WolfeOptions {
     pub c1: f64,
     pub c2: f64,
@@ -39,7 +39,7 @@ pub struct WolfeOptions {
 }
 
 #[repr(C)]
-#[derive(Drop)]
+#[derive(Clone, Copy)]
 pub struct GradientOptions {
     pub gradtol: f64,
     pub ftol: f64,
@@ -51,7 +51,7 @@ pub struct GradientOptions {
 
 // A refusal's number and detail, 0 and 0 for none.
 #[repr(C)]
-#[derive(Drop)]
+#[derive(Clone, Copy)]
 pub struct Refusal {
     pub number: u64,
     pub detail: u64,

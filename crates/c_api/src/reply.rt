@@ -8,7 +8,7 @@ use protocol::{Kind, Said, Termination};
 // `what` is 1 for a question, 2 for a fit's result, 3 for a search's, 4 for a gradient by differences, 5 for a refusal. A field that
 // a reply has no use for is zero.
 #[repr(C)]
-#[derive(Drop)]
+#[derive(Clone, Copy)]
 pub struct Reply {
     pub what: u64,
     pub number: u64,

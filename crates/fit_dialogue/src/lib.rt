@@ -13,7 +13,7 @@ use lines_options::{LineRead, Reader};
 use lines_reader::{ANSWERS, GRADIENT_LINE2, LINE1, LINE3, SIMPLEX_LINE2};
 
 // Where the program stands in its input: its state, and the line that is due as far as it has come.
-#[derive(Drop)]
+#[derive(Clone, Copy)]
 pub struct Place {
     pub state: State,
     pub reader: Reader,
@@ -21,7 +21,7 @@ pub struct Place {
 
 // Where one line of a part of the input leads: how far into the part, how many bytes are to be printed,
 // and the next place.
-#[derive(Drop)]
+#[derive(Clone, Copy)]
 pub struct Step {
     pub at: usize,
     pub count: usize,

@@ -13,7 +13,7 @@ use protocol::{Allowance, Allowances, GradientOptions, SimplexOptions};
 // The state between two lines. `due` is the form of the line that is due; at a number that is no form's, STOPPED
 // as the program sets it, it has stopped. `number` is that line's number. The job's mark, n, the options (those
 // of simplex, or `gradient`) and allowances are what lines 1 and 2 said, `engine` is the engine's record.
-#[derive(Drop)]
+#[derive(Clone, Copy)]
 pub struct State {
     pub due: u64,
     pub number: u64,
@@ -26,14 +26,14 @@ pub struct State {
 }
 
 // How many bytes are to be printed, and the next state.
-#[derive(Drop)]
+#[derive(Clone, Copy)]
 pub struct Turn {
     pub count: usize,
     pub state: State,
 }
 
 // Where a scan of bytes came to, whether a line feed ended it, and the line as far as it has come.
-#[derive(Drop)]
+#[derive(Clone, Copy)]
 pub struct Scan {
     pub at: usize,
     pub ended: bool,

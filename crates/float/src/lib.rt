@@ -134,7 +134,7 @@ pub fn difference_factor() -> f64
 }
 
 // A significand of full width, 53 bits, and its exponent: the value is m * 2^(e - 2098).
-#[derive(Drop)]
+#[derive(Clone, Copy)]
 struct Scaled {
     m: u64,
     e: u64,

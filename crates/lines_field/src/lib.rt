@@ -4,7 +4,7 @@ ghost use Rattle.lines_field.specs.Shapes.{digitOf, malformed, formed};
 ghost use Rattle.lines_field.specs.Fields.{lostOf, growOf, blankFieldOf, lengthenedOf, addedOf, spellsOf, word_of, decimalOf, maybeOf, flagOf, letterOf, job_of, judgedOf};
 
 // A number that is read digit by digit, and whether each was a digit of its base and the number fits.
-#[derive(Drop)]
+#[derive(Clone, Copy)]
 pub struct Sum {
     pub fits: bool,
     pub value: u64,
@@ -12,7 +12,7 @@ pub struct Sum {
 
 // A field as far as it has come: its length, 17 for any above 16, and its number to the bases 10, 16
 // and 256. The last is the text itself: up to eight bytes are one number.
-#[derive(Drop)]
+#[derive(Clone, Copy)]
 pub struct Field {
     pub size: u64,
     pub dec: Sum,
@@ -21,7 +21,7 @@ pub struct Field {
 }
 
 // A field read as what its place asks for: whether it is that, whether it is no `-`, and its number.
-#[derive(Drop)]
+#[derive(Clone, Copy)]
 pub struct Reading {
     pub ok: bool,
     pub given: bool,

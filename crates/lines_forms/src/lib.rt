@@ -7,7 +7,7 @@ use lines_field::Reading;
 use lines_reader::LineRead;
 
 // Line 1: whether it has its form, the job's mark (simplex 1, bfgs 2, lbfgs 3), and n.
-#[derive(Drop)]
+#[derive(Clone, Copy)]
 pub struct FirstLine {
     pub ok: bool,
     pub job: u64,
@@ -15,7 +15,7 @@ pub struct FirstLine {
 }
 
 // Line 3: whether it has its form, and its first seventeen words; a word that it lacks is +0.0.
-#[derive(Drop)]
+#[derive(Clone, Copy)]
 pub struct PointLine {
     pub ok: bool,
     pub x: [f64; 17],
@@ -23,7 +23,7 @@ pub struct PointLine {
 
 // An answer: whether it has its form, its number, its letter, how many words it has, 17 for any
 // above, and the first seventeen.
-#[derive(Drop)]
+#[derive(Clone, Copy)]
 pub struct AnswerLine {
     pub ok: bool,
     pub number: u64,

@@ -10,7 +10,7 @@ pub use lines_reader::{LineRead, Reader, begun, fed, finished, started};
 use protocol::{Allowance, Allowances, GradientOptions, SimplexOptions, WolfeOptions};
 
 // Line 2 of simplex.
-#[derive(Drop)]
+#[derive(Clone, Copy)]
 pub struct SimplexLine {
     pub ok: bool,
     pub options: SimplexOptions,
@@ -18,7 +18,7 @@ pub struct SimplexLine {
 }
 
 // Line 2 of bfgs and lbfgs.
-#[derive(Drop)]
+#[derive(Clone, Copy)]
 pub struct GradientLine {
     pub ok: bool,
     pub options: GradientOptions,

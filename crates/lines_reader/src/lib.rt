@@ -9,7 +9,7 @@ use lines_field::{Field, Reading};
 
 // A line: its form, how many fields it has, whether each is what its place asks for, whether it has
 // no byte, and its first twenty fields.
-#[derive(Drop)]
+#[derive(Clone, Copy)]
 pub struct LineRead {
     pub form: u64,
     pub count: usize,
@@ -19,7 +19,7 @@ pub struct LineRead {
 }
 
 // A line as far as it has come, but for its last field, and that field.
-#[derive(Drop)]
+#[derive(Clone, Copy)]
 pub struct Reader {
     pub field: Field,
     pub line: LineRead,

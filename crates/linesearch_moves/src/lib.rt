@@ -24,7 +24,7 @@ pub const FAILED: u64 = 5;
 // doubles, with `lo` as the trial before where `previous` says that there is one; trials made, with the
 // one in hand, of which the step and then the value; the best trial where `kept` says that there is one,
 // at the end the outcome; and the differences. What has not been in use is zero.
-#[derive(Drop)]
+#[derive(Clone, Copy)]
 pub struct Search {
     pub phase: u64,
     pub zooming: bool,

@@ -17,7 +17,7 @@ const MARGIN: f64 = 0.05;
 const MIN_REL_WIDTH: f64 = 1e-14;
 
 // The step of a trial, with the value and the slope there.
-#[derive(Drop)]
+#[derive(Clone, Copy)]
 pub struct Trial {
     pub step: f64,
     pub value: f64,
@@ -25,7 +25,7 @@ pub struct Trial {
 }
 
 // A trial with its point and its gradient.
-#[derive(Drop)]
+#[derive(Clone, Copy)]
 pub struct Evaluation {
     pub trial: Trial,
     pub x: [f64; 16],
@@ -33,7 +33,7 @@ pub struct Evaluation {
 }
 
 // Where the search starts: point, gradient and value, and the direction with its slope.
-#[derive(Drop)]
+#[derive(Clone, Copy)]
 pub struct Line {
     pub x: [f64; 16],
     pub g: [f64; 16],
@@ -43,7 +43,7 @@ pub struct Line {
 }
 
 // What the start fixes: the count of coordinates, whether the objective gives gradients, the options.
-#[derive(Drop)]
+#[derive(Clone, Copy)]
 pub struct Fixed {
     pub n: usize,
     pub gradients: bool,

@@ -49,7 +49,7 @@ const SHRUNK: u64 = 104;
 
 // What the start fixes. The allowances are numbers: an absent one is its default. Coefficients are not
 // kept: they are made anew from n and the options, so that no record can hold others.
-#[derive(Drop)]
+#[derive(Clone, Copy)]
 pub struct Fixed {
     pub n: usize,
     pub options: SimplexOptions,
@@ -60,7 +60,7 @@ pub struct Fixed {
 // The simplex fit as far as it has come: what the open question is for and its point; of a simplex that
 // is built or shrunk the vertex that is asked for; rounds and runs done; the best vertex of all runs;
 // the centroid, the reflected point with its value, and the vertices.
-#[derive(Drop)]
+#[derive(Clone, Copy)]
 pub struct Simplex {
     pub phase: u64,
     pub at: usize,

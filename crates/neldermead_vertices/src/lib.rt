@@ -13,7 +13,7 @@ const RESOLUTION_ULPS: f64 = 4.0;
 const EPSILON: f64 = 2.220446049250313e-16;
 
 // A point with its value.
-#[derive(Drop)]
+#[derive(Clone, Copy)]
 pub struct Vertex {
     pub x: [f64; 16],
     pub f: f64,

@@ -7,7 +7,7 @@ ghost use Rattle.objective.specs.Step.{begunOf, probeOf, toldOf};
 // Central differences as far as they have come: `at` coordinates are done, `forward` says whether x + h
 // of the next is told, and `value` what was told there; the point, and the gradient so far. It is done
 // where `at` is n. What is not in use is zero.
-#[derive(Drop)]
+#[derive(Clone, Copy)]
 pub struct Differences {
     pub at: usize,
     pub forward: bool,

@@ -36,14 +36,14 @@ pub const MOST_EVALS: u64 = 1_000;
 pub const NO_LIMIT: u64 = 18_446_744_073_709_551_615;
 
 // Accepted V answers, and accepted G answers.
-#[derive(Drop)]
+#[derive(Clone, Copy)]
 pub struct Counts {
     pub fevals: u64,
     pub gevals: u64,
 }
 
 // max_iter and max_fevals of a fit, an absent one as its default.
-#[derive(Drop)]
+#[derive(Clone, Copy)]
 pub struct Limits {
     pub iter: u64,
     pub fevals: u64,
@@ -51,7 +51,7 @@ pub struct Limits {
 
 // All that the engine keeps between two calls. `accepted` is the number last accepted, 0 before the
 // first; the open question's is one more. A part that its job does not use is zero.
-#[derive(Drop)]
+#[derive(Clone, Copy)]
 pub struct Record {
     pub accepted: u64,
     pub job: u64,
@@ -67,7 +67,7 @@ pub struct Record {
 }
 
 // A reply, with the point and the gradient that it speaks of, and the record for the next call.
-#[derive(Drop)]
+#[derive(Clone, Copy)]
 pub struct Answered {
     pub said: Said,
     pub x: [f64; 16],

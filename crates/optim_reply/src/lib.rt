@@ -19,7 +19,7 @@ use quasinewton_record::{
 };
 
 // A reply, with the point and the gradient that it speaks of.
-#[derive(Drop)]
+#[derive(Clone, Copy)]
 pub struct Spoken {
     pub said: Said,
     pub x: [f64; 16],

@@ -3,7 +3,7 @@ ghost use Rattle.std.specs.Prelude.{◌≡◌, ◌≤◌, ◌<◌};
 ghost use Rattle.quasinewton_dense.specs.Step.{diagonalOf, updateRowOf, updateRowsOf, preparedOf, denseUpdateOf, denseDirectionOf};
 
 // The matrix, row by row with sixteen columns. `fresh`: no pair has been taken in.
-#[derive(Drop)]
+#[derive(Clone, Copy)]
 pub struct Dense {
     pub fresh: bool,
     pub h: [f64; 256],

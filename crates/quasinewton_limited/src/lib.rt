@@ -3,7 +3,7 @@ ghost use Rattle.std.specs.Prelude.{◌≡◌, ◌≤◌, ◌<◌};
 ghost use Rattle.quasinewton_limited.specs.Step.{downOf, allDownOf, upOf, allUpOf, limitedDirectionOf, shiftedOf, poppedOf, roomOf, gammaOf, limitedUpdateOf, noPairsOf};
 
 // A step, the change of the gradient along it, and 1 / (s · y).
-#[derive(Drop)]
+#[derive(Clone, Copy)]
 pub struct Pair {
     pub s: [f64; 16],
     pub y: [f64; 16],
@@ -11,7 +11,7 @@ pub struct Pair {
 }
 
 // The last pairs, oldest first.
-#[derive(Drop)]
+#[derive(Clone, Copy)]
 pub struct Limited {
     pub count: usize,
     pub gamma: f64,
@@ -19,7 +19,7 @@ pub struct Limited {
 }
 
 // What the first loop of the two hands to the second; alphas[i] is that of pair i.
-#[derive(Drop)]
+#[derive(Clone, Copy)]
 pub struct Sweep {
     pub q: [f64; 16],
     pub alphas: [f64; 16],

@@ -6,7 +6,7 @@ pub use quasinewton_dense::Dense;
 pub use quasinewton_limited::{Limited, Pair};
 
 // One of the two: the part that is not in use stays zero.
-#[derive(Drop)]
+#[derive(Clone, Copy)]
 pub struct Model {
     pub limited: bool,
     pub memory: usize,

@@ -44,7 +44,7 @@ pub const AT_HEAD: u64 = 13;
 
 // What the start fixes. The allowances are numbers: an absent max_iter is its default, an absent
 // max_fevals the largest u64, which no count reaches.
-#[derive(Drop)]
+#[derive(Clone, Copy)]
 pub struct Fixed {
     pub n: usize,
     pub options: GradientOptions,
@@ -56,7 +56,7 @@ pub struct Fixed {
 // is for, or how the fit ended, with the number and detail of a refusal that ended it; whether no step
 // has been made; rounds done; the point, its value and gradient with the direction of the search (the
 // line); the search; and the differences for the first gradient. What has not been in use is zero.
-#[derive(Drop)]
+#[derive(Clone, Copy)]
 pub struct Descent {
     pub phase: u64,
     pub number: u64,

@@ -5,14 +5,14 @@ use lines_options::Reader;
 use lines_reader::{ANSWERS, LINE3, STOPPED};
 
 // A line as far as it has come, read both ways.
-#[derive(Drop)]
+#[derive(Clone, Copy)]
 pub struct Given {
     pub reader: Reader,
     pub head: Head,
 }
 
 // Where a scan of bytes came to, whether a line feed ended it, and the line.
-#[derive(Drop)]
+#[derive(Clone, Copy)]
 pub struct Scan {
     pub at: usize,
     pub ended: bool,

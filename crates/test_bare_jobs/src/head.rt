@@ -6,7 +6,7 @@ use optim_record::{DIFFERENCES, SEARCH};
 
 // Search's mark and differences', 0 for a line of another form; whether gradients are given, and
 // max_evals.
-#[derive(Drop)]
+#[derive(Clone, Copy)]
 pub struct Job {
     pub mark: u64,
     pub gradients: bool,
@@ -15,7 +15,7 @@ pub struct Job {
 
 // The line as far as it has come: how many fields have ended, 4 for any above 3; how many bytes of
 // `differences` the first one spells so far, 99 where it spells another word; the first three fields.
-#[derive(Drop)]
+#[derive(Clone, Copy)]
 pub struct Head {
     pub count: u64,
     pub spelled: usize,

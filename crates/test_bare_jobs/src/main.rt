@@ -35,7 +35,7 @@ use protocol::{Said, WolfeOptions};
 
 // A list's words: whether its line has that form, how many are lent, and seventeen of them. Seventeen
 // are as refused as more.
-#[derive(Drop)]
+#[derive(Clone, Copy)]
 struct Words {
     ok: bool,
     count: usize,
@@ -45,7 +45,7 @@ struct Words {
 // The state between two lines. `due` is what the next one is to be: 1 a job's first line, 2 the numbers
 // of a search, 3 its start, 4 its direction, 5 its start gradient, 6 the point of differences, 7 an
 // answer; 0 where the program has stopped. `written` is whether every reply was written.
-#[derive(Drop)]
+#[derive(Clone, Copy)]
 struct State {
     due: u64,
     written: bool,
@@ -57,7 +57,7 @@ struct State {
     engine: Record,
 }
 
-#[derive(Drop)]
+#[derive(Clone, Copy)]
 struct Talk {
     state: State,
     given: Given,

@@ -2,7 +2,7 @@
 // input is known to hold a whole one.
 
 // The words so far, and the word that is being spelled. `bad` is set where the form is another.
-#[derive(Drop)]
+#[derive(Clone, Copy)]
 pub struct Row {
     pub bad: bool,
     pub digits: u64,

@@ -14,7 +14,7 @@ use protocol::{Kind, Said};
 use test_rows::Tally;
 
 // The count so far, the record that was returned last, and the line as far as it is read.
-#[derive(Drop)]
+#[derive(Clone, Copy)]
 struct State {
     tally: Tally,
     kept: Record,
@@ -22,14 +22,14 @@ struct State {
 }
 
 // Whether a row is as the engine has it, and the record after it.
-#[derive(Drop)]
+#[derive(Clone, Copy)]
 struct Verdict {
     agrees: bool,
     kept: Record,
 }
 
 // A reply as a row has it: 0 a question, 1 an end, 2 a refusal, 3 another; two numbers; a list's length.
-#[derive(Drop)]
+#[derive(Clone, Copy)]
 struct Reply {
     form: u64,
     a: u64,

@@ -11,7 +11,7 @@ use test_rows::Tally;
 // The count so far; the fit's state and the line given as far as it has come; the bytes printed last,
 // how many, and how many of them rows have matched; the row's place (0 its sign, 1 the space, 2 the
 // rest), its sign, and whether it agrees so far.
-#[derive(Drop)]
+#[derive(Clone, Copy)]
 struct Replay {
     tally: Tally,
     state: State,

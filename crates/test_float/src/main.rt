@@ -8,7 +8,7 @@ use libc::{STDERR_FILENO, STDIN_FILENO, STDOUT_FILENO};
 use test_rows::Tally;
 
 // The number that 16 digits spell, and whether each is a digit.
-#[derive(Drop)]
+#[derive(Clone, Copy)]
 struct Word {
     ok: bool,
     bits: u64,
@@ -113,7 +113,7 @@ fn row_agrees(row: &[u8; 53]) -> bool {
 }
 
 // The count so far, and the row as far as it has come.
-#[derive(Drop)]
+#[derive(Clone, Copy)]
 struct Rows {
     tally: Tally,
     size: usize,

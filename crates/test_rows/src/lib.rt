@@ -9,7 +9,7 @@ ghost use Rattle.test_rows.specs.Rows.{digitOf, noneOf, countedOf, reportText};
 use lines_buffer::{put_byte, put_decimal, put_text};
 
 // What is counted: rows, those that differ, and the first of these.
-#[derive(Drop)]
+#[derive(Clone, Copy)]
 pub struct Tally {
     pub rows: u64,
     pub differ: u64,
