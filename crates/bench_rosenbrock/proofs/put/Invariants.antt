@@ -1,0 +1,12 @@
+-- `bench_rosenbrock::put` is safe and ends: each turn passes a coordinate, and a store keeps the length. Assumes nothing.
+use borrow.Author.Rules.{rules}
+use mathlib.Core.Path.{◌≡◌}
+use Prim.Native.Nat.{◌-◌, ◌≤◌}
+use lib.ListN.{length}
+use Rattle.bench_rosenbrock.proofs.put.Given as goal
+
+abbrev pub invariant-loop-i : goal.invariant-loop-i
+invariant-loop-i l = (l.i ≤ l.at) × (length l.x ≡ length l.initial.x)
+
+abbrev pub decreases-loop-i : goal.decreases-loop-i
+decreases-loop-i l = l.at - l.i

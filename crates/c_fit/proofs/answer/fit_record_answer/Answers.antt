@@ -1,0 +1,7 @@
+-- `c_fit::answer::fit_record_answer` meets its contract: what the engine says is handed on. Assumes nothing.
+use borrow.Author.Rules.{rules}
+use Rattle.c_fit.proofs.Laws.{handed}
+use Rattle.c_fit.proofs.answer.fit_record_answer.Goals as goal
+
+pub returns : goal.returns
+returns c = handed _ _ _ _ c.hand.ensures c.answer-said.ensures

@@ -1,0 +1,16 @@
+-- `fit_dialogue::closed` meets its contract: each return follows the calls and tests that led to it. Assumes nothing.
+use mathlib.Core.Path.{refl}
+use borrow.Author.Rules.{rules}
+use Rattle.fit_dialogue.specs.Program.{byBytes}
+use Rattle.fit_dialogue.proofs.closed.Goals as goal
+
+pub returns-then-begun : goal.returns-then-begun
+unfolding byBytes
+returns-then-begun c =
+    let t = c.decided-turn.ensures in
+    rw (← c.begun.ensures, c.if-begun.true, ← c.finished-line.ensures)
+    (rw t.0, t.1)
+
+pub returns : goal.returns
+unfolding byBytes
+returns c = rw (← c.begun.ensures, c.if-begun.false) (refl, refl)

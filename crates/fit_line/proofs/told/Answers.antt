@@ -1,0 +1,17 @@
+-- `fit_line::told` meets its contract: the engine's reply is shown, and its record kept. Assumes nothing.
+use borrow.Author.Rules.{rules}
+use mathlib.Core.Path.{sym, subst}
+use Rattle.protocol.specs.Protocol.{Reply}
+use Rattle.optim_record.specs.declared.Record.{Record}
+use Rattle.optim_record.specs.Record.{outcomeOf}
+use Rattle.fit_line.specs.Turns.{Few, toldOf}
+use Rattle.fit_line.proofs.Few.{answer-few}
+use Rattle.fit_line.proofs.told.Goals as goal
+
+pub shown-count-requires : goal.shown-count-requires
+unfolding toldOf outcomeOf
+shown-count-requires c = subst (λ (o : Reply × Record). Few o.0 o.1.n) (sym c.answer-a.ensures.0) (answer-few _ _ _ _)
+
+pub returns : goal.returns
+unfolding toldOf outcomeOf
+returns c = (rw (← c.answer-a.ensures.0, ← c.shown-count.ensures.0, ← c.following.ensures), rw (← c.answer-a.ensures.0) c.shown-count.ensures.1)

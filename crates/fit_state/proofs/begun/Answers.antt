@@ -1,0 +1,8 @@
+-- `fit_state::begun` meets its contract: each return follows the calls and tests that led to it. Assumes nothing.
+use borrow.Author.Rules.{rules}
+use Rattle.fit_state.specs.States.{begunOf}
+use Rattle.fit_state.proofs.begun.Goals as goal
+
+pub returns : goal.returns
+unfolding begunOf
+returns c = rw (← c.blank-engine.ensures, ← c.no_options-options.ensures, ← c.no_gradient_options-gradient.ensures)

@@ -1,0 +1,17 @@
+-- `fit_state::scanned` meets its contract: what is to be scanned from here on is what was to be scanned. Assumes nothing.
+use Prim.Native.Nat.{◌+◌, ◌-◌}
+use mathlib.Core.Path.{◌≡◌, refl, ap, ◌∙◌}
+use native.Mathlib.Omega.{arith}
+use lib.ListN.{length, drop, get_or}
+use borrow.Author.Rules.{rules}
+use borrow.Author.Tests.{eq-eqb, ne_eqb}
+use Rattle.lines_reader.specs.declared.Reader.{Reader}
+use Rattle.fit_state.specs.States.{scannedOf}
+use Rattle.fit_state.proofs.Scans.{scan-feed, scan-go, scan-end}
+use Rattle.fit_state.proofs.scanned.Given as goal
+
+abbrev pub invariant-loop-i : goal.invariant-loop-i
+invariant-loop-i l = scannedOf l.i (drop l.i l.s) l.reader ≡ scannedOf l.from (drop l.from l.s) l.initial.reader
+
+abbrev pub decreases-loop-i : goal.decreases-loop-i
+decreases-loop-i l = length l.s - l.i

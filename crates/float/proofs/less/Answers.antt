@@ -1,0 +1,23 @@
+-- `float::less` meets its contract: ranks compare as the values do. Assumes nothing.
+use borrow.Author.Rules.{rules}
+use mathlib.Core.Path.{refl, sym, ◌∙◌}
+use Rattle.float.proofs.Bits.{held, is-nan, number}
+use Rattle.float.proofs.Order.{no-lt-nan, no-nan-lt}
+use Rattle.float.proofs.Ranks.{rank_lt}
+use Rattle.float.proofs.Words.{signed_test}
+use Rattle.float.proofs.less.Goals as goal
+
+pub returns-then-a : goal.returns-then-a
+returns-then-a c = rw (is-nan c.args.a c.if-a.true) (sym (no-nan-lt c.args.b))
+
+pub returns-then-b : goal.returns-then-b
+returns-then-b c = rw (is-nan c.args.b c.if-b.true) (sym (no-lt-nan c.args.a))
+
+pub returns : goal.returns
+returns c =
+    let a = c.args.a in
+    let b = c.args.b in
+    let k1 = c.rank in
+    let k2 = c.rank-2 in
+    sym (signed_test k1.type-inv k2.type-inv k1.ensures k2.ensures refl)
+    ∙ rank_lt a b (held c.well_formed.0.1) (held c.well_formed.1.0.1) (number a c.if-a.false) (number b c.if-b.false)

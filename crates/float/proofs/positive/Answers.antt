@@ -1,0 +1,13 @@
+-- `float::positive` meets its contract: each return follows the calls and tests that led to it. Assumes nothing.
+use borrow.Author.Rules.{rules}
+use Rattle.float.specs.Values.{positiveOf}
+use lib.Ieee.{of_bits}
+use Rattle.float.proofs.positive.Goals as goal
+
+pub returns-then-x : goal.returns-then-x
+unfolding positiveOf of_bits
+returns-then-x c = rw (← c.is_finite.ensures, c.if-x.true)
+
+pub returns : goal.returns
+unfolding positiveOf of_bits
+returns c = rw c.if-x.false

@@ -1,0 +1,14 @@
+-- `lines_buffer::places` meets its contract: the digits that are counted and those to come are all. Assumes nothing.
+use Prim.Native.Nat.{◌+◌}
+use mathlib.Core.Path.{◌≡◌}
+use native.Mathlib.Omega.{arith}
+use Rattle.lines_buffer.specs.Texts.{placesFrom}
+use Rattle.lines_buffer.proofs.Writes.{places-stop, places-go, places-end}
+use borrow.Author.Rules.{rules}
+use Rattle.lines_buffer.proofs.places.Given as goal
+
+abbrev pub invariant-loop-k : goal.invariant-loop-k
+invariant-loop-k l = (l.more + l.k ≡ 19) × (placesFrom l.k l.rest + l.more ≡ placesFrom 19 l.n)
+
+abbrev pub decreases-loop-k : goal.decreases-loop-k
+decreases-loop-k l = l.k

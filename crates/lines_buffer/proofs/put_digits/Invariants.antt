@@ -1,0 +1,18 @@
+-- `lines_buffer::put_digits` meets its contract: the digits that are to come and those that stand are the numeral. Assumes nothing.
+use Prim.Native.Nat.{◌+◌, ◌-◌, ◌≤◌, ◌<◌}
+use mathlib.Core.Path.{◌≡◌, refl, ap, ◌∙◌}
+use mathlib.Core.List.{List, ◌++◌, append-nil}
+use native.Mathlib.Omega.{arith}
+use native.Mathlib.Nat.{mod-lt}
+use lib.ListN.{length, take, drop, length-set}
+use lib.Seq.{slice, slice_empty, take-set-le, drop-set-lt}
+use borrow.Author.Rules.{rules}
+use Rattle.lines_buffer.specs.Texts.{numeral}
+use Rattle.lines_buffer.proofs.Writes.{moved, all_moved}
+use Rattle.lines_buffer.proofs.put_digits.Given as goal
+
+abbrev pub invariant-loop-i : goal.invariant-loop-i
+invariant-loop-i l = (l.i ≤ l.base) × (length l.n ≡ length l.initial.n) × (take l.out l.n ≡ take l.out l.initial.n) × (drop (l.out + l.base) l.n ≡ drop (l.out + l.base) l.initial.n) × (numeral l.at l.i l.rest ++ slice (l.out + l.i) (l.out + l.base) l.n ≡ numeral l.at l.base l.k)
+
+abbrev pub decreases-loop-i : goal.decreases-loop-i
+decreases-loop-i l = l.i

@@ -1,0 +1,16 @@
+-- `lines_buffer::put_text` meets its contract: after i turns the first i bytes of the text stand. Assumes nothing.
+use Prim.Native.Nat.{◌+◌, ◌-◌, ◌≤◌}
+use mathlib.Core.Path.{◌≡◌}
+use native.Mathlib.Omega.{arith}
+use lib.ListN.{length, take, get_or}
+use lib.Seq.{take_all}
+use borrow.Author.Rules.{rules}
+use Rattle.lines_buffer.specs.Texts.{Written}
+use Rattle.lines_buffer.proofs.Writes.{wrote_none, wrote-more, wrote-is, take_more}
+use Rattle.lines_buffer.proofs.put_text.Given as goal
+
+abbrev pub invariant-loop-i : goal.invariant-loop-i
+invariant-loop-i l = (l.i ≤ length l.at) × Written l.initial.s l.out l.s (l.out + l.i) (take l.i l.at)
+
+abbrev pub decreases-loop-i : goal.decreases-loop-i
+decreases-loop-i l = length l.at - l.i

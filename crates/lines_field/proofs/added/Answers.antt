@@ -1,0 +1,8 @@
+-- `lines_field::added` meets its contract: each return follows the calls and tests that led to it. Assumes nothing.
+use borrow.Author.Rules.{rules}
+use Rattle.lines_field.specs.Fields.{addedOf}
+use Rattle.lines_field.proofs.added.Goals as goal
+
+pub returns : goal.returns
+unfolding addedOf
+returns c = rw (← c.digit-d.ensures, ← c.grow-dec.ensures, ← c.grow-hex.ensures, ← c.grow-text.ensures, ← c.lengthened-size.ensures)

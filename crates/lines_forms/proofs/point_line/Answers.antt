@@ -1,0 +1,8 @@
+-- `lines_forms::point_line` meets its contract: each return follows the calls and tests that led to it. Assumes nothing.
+use borrow.Author.Rules.{rules}
+use Rattle.lines_forms.specs.Lines.{pointLineOf}
+use Rattle.lines_forms.proofs.point_line.Goals as goal
+
+pub returns : goal.returns
+unfolding pointLineOf
+returns c = rw (← c.point_holds-ok.ensures, ← c.words-x.ensures)

@@ -1,0 +1,9 @@
+-- `linesearch::begun` meets its contract: each return follows the calls and tests that led to it. Assumes nothing.
+use borrow.Author.Rules.{rules}
+use Rattle.linesearch.specs.Step.{begunOf}
+use lib.Ieee.{of_bits}
+use Rattle.linesearch.proofs.begun.Goals as goal
+
+pub returns : goal.returns
+unfolding begunOf of_bits
+returns c = rw (← c.begun-diff.ensures, ← c.min.ensures, ← c.bracket.ensures)

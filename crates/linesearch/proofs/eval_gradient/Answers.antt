@@ -1,0 +1,12 @@
+-- `linesearch::eval_gradient` meets its contract: each return follows the calls and tests that led to it. Assumes nothing.
+use borrow.Author.Rules.{rules}
+use Rattle.linesearch.specs.Step.{evalGradientOf}
+use Rattle.linesearch.proofs.eval_gradient.Goals as goal
+
+pub returns-then-fixed : goal.returns-then-fixed
+unfolding evalGradientOf
+returns-then-fixed c = rw c.if-fixed.true
+
+pub returns : goal.returns
+unfolding evalGradientOf
+returns c = rw (← c.point_at-x.ensures, ← c.begun.ensures, ← c.differing.ensures, c.if-fixed.false)

@@ -1,0 +1,8 @@
+-- `linesearch::graded` meets its contract: each return follows the calls and tests that led to it. Assumes nothing.
+use borrow.Author.Rules.{rules}
+use Rattle.linesearch.specs.Step.{gradedOf}
+use Rattle.linesearch.proofs.graded.Goals as goal
+
+pub returns : goal.returns
+unfolding gradedOf
+returns c = rw (← c.evaluated.ensures, ← c.decided.ensures)

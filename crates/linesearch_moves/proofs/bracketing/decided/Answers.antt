@@ -1,0 +1,12 @@
+-- `linesearch_moves::bracketing::decided` meets its contract: each return follows the calls and tests that led to it. Assumes nothing.
+use borrow.Author.Rules.{rules}
+use Rattle.linesearch_moves.specs.Bracketing.{decidedOf}
+use Rattle.linesearch_moves.proofs.bracketing.decided.Goals as goal
+
+pub returns-then-s : goal.returns-then-s
+unfolding decidedOf
+returns-then-s c = rw (← c.keep-q.ensures, ← c.zoomed.ensures, c.if-s.true)
+
+pub returns : goal.returns
+unfolding decidedOf
+returns c = rw (← c.keep-q.ensures, ← c.bracketed.ensures, c.if-s.false)

@@ -1,0 +1,55 @@
+-- `neldermead_vertices::sorted` meets its contract: the vertices from i on are in order; in a turn, what is left to do with place j free is what
+-- was to do with place i. Assumes nothing.
+use borrow.Author.Rules.{rules}
+use borrow.Author.Tests.{not-true, not-false}
+use Prim.Native.Nat.{◌-◌, ◌≤◌}
+use mathlib.Core.Path.{◌≡◌, refl, sym, ap, ◌∙◌}
+use mathlib.Core.List.{List}
+use mathlib.Core.Logic.{⊎_elim}
+use native.Mathlib.Omega.{arith}
+use lib.ListN.{length, length-set}
+use Rattle.neldermead_vertices.specs.declared.Vertex.{Vertex}
+use Rattle.neldermead_vertices.specs.Vertices.{put_of, insertedOf, sortedOf}
+use Rattle.neldermead_vertices.proofs.Insertion.{put-goes, put-stays, put-ends, sorted_from, sorted-starts, sorted-goes}
+use Rattle.neldermead_vertices.proofs.sorted.Goals as goal
+
+pub loop-i-init : goal.loop-i-init
+loop-i-init c =
+    let a = c.args in
+    let long : length a.v ≡ 17 = search rules in
+    (search rules, long, sorted-starts a.v a.n (omega arith))
+
+pub loop-j-init : goal.loop-j-init
+loop-j-init c = (search rules, search rules, refl)
+
+pub loop-j-preserved : goal.loop-j-preserved
+loop-j-preserved c =
+    let l = c.loop-j in
+    let long = l.invariant.1 in
+    (search rules, simp length-set long, put-goes _ l.w _ (omega arith) l.j c.loop-j-test.true (sym c.precedes.ensures ∙ c.if-not-precedes.false) ∙ l.invariant.2)
+
+pub loop-i-preserved : goal.loop-i-preserved
+unfolding insertedOf
+loop-i-preserved c =
+    let a = c.args in
+    let o = c.loop-i in
+    let l = c.loop-j in
+    let long : length a.v ≡ 17 = search rules in
+    let still = l.invariant.1 in
+    let next = ap (λ (w : List Vertex). insertedOf w (o.i - 1) a.n) o.invariant.2 ∙ sorted-goes a.v a.n (omega arith) o.i c.loop-i-test.true o.invariant.0 in (
+      omega arith,
+      simp length-set still,
+      ⊎_elim
+          (λ w.
+          let end : l.j ≡ a.n = omega (arith, w.left) in
+          rw end (put-ends _ l.w a.n (omega arith)) ∙ rw end at l.invariant.2 ∙ next)
+          (λ w. put-stays _ l.w _ (omega arith) l.j w.0.taken (sym w.1.ensures ∙ not-true _ w.2.taken) ∙ l.invariant.2 ∙ next)
+          c.loop-j-test.branch,
+    )
+
+pub returns : goal.returns
+unfolding sortedOf sorted_from
+returns c =
+    let l = c.loop-i in
+    let end : l.i ≡ 0 = omega arith in
+    rw end at l.invariant.2

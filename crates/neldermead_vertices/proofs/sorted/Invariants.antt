@@ -1,0 +1,26 @@
+-- `neldermead_vertices::sorted` meets its contract: the vertices from i on are in order; in a turn, what is left to do with place j free is what
+-- was to do with place i. Assumes nothing.
+use borrow.Author.Rules.{rules}
+use borrow.Author.Tests.{not-true, not-false}
+use Prim.Native.Nat.{◌-◌, ◌≤◌}
+use mathlib.Core.Path.{◌≡◌, refl, sym, ap, ◌∙◌}
+use mathlib.Core.List.{List}
+use mathlib.Core.Logic.{⊎_elim}
+use native.Mathlib.Omega.{arith}
+use lib.ListN.{length, length-set}
+use Rattle.neldermead_vertices.specs.declared.Vertex.{Vertex}
+use Rattle.neldermead_vertices.specs.Vertices.{put_of, insertedOf, sortedOf}
+use Rattle.neldermead_vertices.proofs.Insertion.{put-goes, put-stays, put-ends, sorted_from, sorted-starts, sorted-goes}
+use Rattle.neldermead_vertices.proofs.sorted.Given as goal
+
+abbrev pub invariant-loop-j : goal.invariant-loop-j
+invariant-loop-j l = (l.j ≤ l.n) × (length l.u ≡ 17) × (put_of l.i l.u l.j l.n ≡ put_of l.i l.initial.u l.w l.n)
+
+abbrev pub decreases-loop-j : goal.decreases-loop-j
+decreases-loop-j l = l.n - l.j
+
+abbrev pub invariant-loop-i : goal.invariant-loop-i
+invariant-loop-i l = (l.i ≤ l.n) × (length l.w ≡ 17) × (l.w ≡ sorted_from l.initial.w l.n l.i)
+
+abbrev pub decreases-loop-i : goal.decreases-loop-i
+decreases-loop-i l = l.i

@@ -1,0 +1,8 @@
+-- `objective::backward` meets its contract: each return follows the calls and tests that led to it. Assumes nothing.
+use borrow.Author.Rules.{rules}
+use Rattle.objective.specs.Algorithm.{backwardOf}
+use Rattle.objective.proofs.backward.Goals as goal
+
+pub returns : goal.returns
+unfolding backwardOf
+returns c = rw (← c.difference_step.ensures)

@@ -1,0 +1,8 @@
+-- `objective::difference_step` meets its contract: each return follows the calls and tests that led to it. Assumes nothing.
+use borrow.Author.Rules.{rules}
+use Rattle.objective.specs.Algorithm.{differenceStep}
+use Rattle.objective.proofs.difference_step.Goals as goal
+
+pub returns : goal.returns
+unfolding differenceStep
+returns c = rw (← c.difference_factor.ensures, ← c.abs.ensures, ← c.max.ensures)

@@ -1,0 +1,12 @@
+-- `objective::probe` meets its contract: each return follows the calls and tests that led to it. Assumes nothing.
+use borrow.Author.Rules.{rules}
+use Rattle.objective.specs.Step.{probeOf}
+use Rattle.objective.proofs.probe.Goals as goal
+
+pub returns-then-s : goal.returns-then-s
+unfolding probeOf
+returns-then-s c = rw (← c.backward.ensures, c.if-s.true)
+
+pub returns : goal.returns
+unfolding probeOf
+returns c = rw (← c.forward.ensures, c.if-s.false)

@@ -1,0 +1,8 @@
+-- `optim_first_record::gradients::gradient_limits` meets its contract: each return follows the calls and tests that led to it. Assumes nothing.
+use borrow.Author.Rules.{rules}
+use Rattle.optim_first_record.specs.Starts.{gradientLimitsOf}
+use Rattle.optim_first_record.proofs.gradients.gradient_limits.Goals as goal
+
+pub returns : goal.returns
+unfolding gradientLimitsOf
+returns c = rw (← c.limit-iter.ensures, ← c.limit-fevals.ensures)

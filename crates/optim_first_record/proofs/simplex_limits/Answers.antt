@@ -1,0 +1,13 @@
+-- `optim_first_record::simplex_limits` meets its contract: each return follows the calls and tests that led to it. Assumes nothing.
+use borrow.Author.Rules.{rules}
+use Rattle.optim_first_record.specs.Starts.{simplexLimitsOf}
+use Rattle.optim_first_record.proofs.Limits.{default-fits}
+use Rattle.optim_first_record.proofs.simplex_limits.Goals as goal
+
+pub overflow_mul-default-2 : goal.overflow_mul-default-2
+unfolding simplexLimitsOf
+overflow_mul-default-2 c = record { fits = default-fits c.args.n c.args.o.restarts c.requires.n_bound c.requires.restarts_bound }
+
+pub returns : goal.returns
+unfolding simplexLimitsOf
+returns c = rw (← c.limit-iter.ensures, ← c.limit-fevals.ensures)

@@ -1,0 +1,19 @@
+-- `optim_load::parts::pairs` meets its contract: after i turns the first i pairs are set. Assumes nothing.
+use borrow.Author.Rules.{rules}
+use Prim.Native.Nat.{◌-◌}
+use mathlib.Core.Path.{◌≡◌, refl, ◌∙◌}
+use lib.ListN.{length}
+use Rattle.optim_lists.proofs.Places.{pair_of, pairs-places, Setting, set-starts, set-goes, set-ends}
+use Rattle.optim_load.proofs.parts.pairs.Goals as goal
+
+pub loop-i-init : goal.loop-i-init
+loop-i-init c = (search rules, search rules, search rules, set-starts refl)
+
+pub loop-i-preserved : goal.loop-i-preserved
+loop-i-preserved c = let made = c.loop-i.invariant in (made.0, made.1, made.2, set-goes made.3 c.loop-i-test.true refl)
+
+pub returns : goal.returns
+returns c =
+    let a = c.args in
+    let made = c.loop-i.invariant in
+    set-ends made.3 c.loop-i-test.false ∙ pairs-places a.t1 a.t2 a.t3 made.0 made.1 made.2

@@ -1,0 +1,19 @@
+-- `optim_load::parts::vertices` meets its contract: after i turns the first i vertices are set. Assumes nothing.
+use borrow.Author.Rules.{rules}
+use Prim.Native.Nat.{◌-◌}
+use mathlib.Core.Path.{◌≡◌, refl, ◌∙◌}
+use lib.ListN.{length}
+use Rattle.optim_lists.proofs.Places.{vertexOf, vertices-places, Setting, set-starts, set-goes, set-ends}
+use Rattle.optim_load.proofs.parts.vertices.Goals as goal
+
+pub loop-i-init : goal.loop-i-init
+loop-i-init c = (search rules, search rules, set-starts refl)
+
+pub loop-i-preserved : goal.loop-i-preserved
+loop-i-preserved c = let made = c.loop-i.invariant in (made.0, made.1, set-goes made.2 c.loop-i-test.true refl)
+
+pub returns : goal.returns
+returns c =
+    let a = c.args in
+    let made = c.loop-i.invariant in
+    set-ends made.2 c.loop-i-test.false ∙ vertices-places a.t1 a.t2 made.0 made.1

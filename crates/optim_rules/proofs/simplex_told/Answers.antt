@@ -1,0 +1,12 @@
+-- `optim_rules::simplex_told` meets its contract: each return follows the calls and tests that led to it. Assumes nothing.
+use borrow.Author.Rules.{rules}
+use Rattle.optim_rules.specs.Moves.{simplexToldOf}
+use Rattle.optim_rules.proofs.simplex_told.Goals as goal
+
+pub told-requires : goal.told-requires
+unfolding simplexToldOf
+told-requires c = rw c.fixed-fixed.ensures (c.requires.ranges.some c.requires.job_value, (c.requires.ranges.few, c.requires.ranges.vertex c.requires.job_value))
+
+pub returns : goal.returns
+unfolding simplexToldOf
+returns c = rw (← c.fixed-fixed.ensures, ← c.read-f.ensures, ← c.told.ensures)

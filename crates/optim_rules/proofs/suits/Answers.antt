@@ -1,0 +1,21 @@
+-- `optim_rules::suits` meets its contract: each return follows the calls and tests that led to it. Assumes nothing.
+use borrow.Author.Rules.{rules}
+use borrow.Author.Tests.{eq-eqb, ne_eqb}
+use Rattle.optim_rules.specs.Rules.{suitsOf}
+use Rattle.optim_rules.proofs.suits.Goals as goal
+
+pub returns-then-kind-ne71 : goal.returns-then-kind-ne71
+unfolding suitsOf
+returns-then-kind-ne71 c = rw (← c.gradient_due.ensures, c.if-gradient_due.true, ne_eqb _ _ c.if-kind-ne71.true)
+
+pub returns-then-gradient_due : goal.returns-then-gradient_due
+unfolding suitsOf
+returns-then-gradient_due c = rw (← c.gradient_due.ensures, c.if-gradient_due.true, eq-eqb _ _ c.if-kind-ne71.false)
+
+pub returns-then-kind-ne86 : goal.returns-then-kind-ne86
+unfolding suitsOf
+returns-then-kind-ne86 c = rw (← c.gradient_due.ensures, c.if-gradient_due.false, ne_eqb _ _ c.if-kind-ne86.true)
+
+pub returns : goal.returns
+unfolding suitsOf
+returns c = rw (← c.gradient_due.ensures, c.if-gradient_due.false, eq-eqb _ _ c.if-kind-ne86.false)

@@ -1,0 +1,8 @@
+-- `optim_start::bfgs` meets its contract: each return follows the calls and tests that led to it. Assumes nothing.
+use borrow.Author.Rules.{rules}
+use Rattle.optim_start.specs.Start.{bfgsOf}
+use Rattle.optim_start.proofs.bfgs.Goals as goal
+
+pub returns : goal.returns
+unfolding bfgsOf
+returns c = c.gradient.ensures

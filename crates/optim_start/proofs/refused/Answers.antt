@@ -1,0 +1,10 @@
+-- `optim_start::refused` meets its contract: each return follows the calls and tests that led to it. Assumes nothing.
+use borrow.Author.Rules.{rules}
+use mathlib.Core.Path.{◌∙◌}
+use Rattle.protocol.specs.Protocol.{replyOf}
+use Rattle.optim_reply.specs.Spoken.{replyWith}
+use Rattle.optim_start.proofs.refused.Goals as goal
+
+pub returns : goal.returns
+unfolding replyWith replyOf
+returns c = (rw (c.answered.ensures.0, c.refused-s.ensures, c.blank-none.ensures), c.answered.ensures.1 ∙ c.refused-s.ensures)

@@ -1,0 +1,20 @@
+-- `optim_store::steps_of` meets its contract: after i turns the first i steps are set. Assumes nothing.
+use borrow.Author.Rules.{rules}
+use Prim.Native.Nat.{◌-◌}
+use mathlib.Core.Path.{◌≡◌, refl, ◌∙◌}
+use lib.ListN.{length}
+use Rattle.quasinewton_limited.specs.declared.Pair.{Pair}
+use Rattle.quasinewton_limited.specs.Step.{noPair, pair_at}
+use Rattle.optim_lists.proofs.Places.{map-places, Setting, set-starts, set-goes, set-ends}
+use Rattle.optim_store.proofs.steps_of.Goals as goal
+
+pub loop-i-init : goal.loop-i-init
+loop-i-init c = (search rules, set-starts refl)
+
+pub loop-i-preserved : goal.loop-i-preserved
+loop-i-preserved c = let made = c.loop-i.invariant in (made.0, set-goes made.1 c.loop-i-test.true refl)
+
+pub returns : goal.returns
+returns c =
+    let made = c.loop-i.invariant in
+    set-ends made.1 c.loop-i-test.false ∙ map-places (λ (a : Pair). a.s) noPair c.args.p 16 made.0

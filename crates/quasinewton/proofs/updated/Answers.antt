@@ -1,0 +1,8 @@
+-- `quasinewton::updated` meets its contract: each return follows the calls and tests that led to it. Assumes nothing.
+use borrow.Author.Rules.{rules}
+use Rattle.quasinewton.specs.Step.{updatedOf}
+use Rattle.quasinewton.proofs.updated.Goals as goal
+
+pub returns : goal.returns
+unfolding updatedOf
+returns c = rw (← c.Pair-step.ensures, ← c.pair_change-change.ensures, ← c.update.ensures)

@@ -1,0 +1,8 @@
+-- `quasinewton_dense::dense_update` meets its contract: each return follows the calls and tests that led to it. Assumes nothing.
+use borrow.Author.Rules.{rules}
+use Rattle.quasinewton_dense.specs.Step.{denseUpdateOf}
+use Rattle.quasinewton_dense.proofs.dense_update.Goals as goal
+
+pub returns : goal.returns
+unfolding denseUpdateOf
+returns c = rw (← c.dot-sy.ensures, ← c.prepared-h.ensures, ← c.mat_vec-hy.ensures, ← c.dot-yhy.ensures, ← c.update_rows.ensures)

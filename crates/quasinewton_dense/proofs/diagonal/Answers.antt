@@ -1,0 +1,20 @@
+-- `quasinewton_dense::diagonal` meets its contract: after i turns it has made what the definition makes of i. Assumes nothing.
+use borrow.Author.Rules.{rules}
+use mathlib.Core.Path.{refl}
+use Prim.Native.Nat.{◌-◌}
+use lib.Ieee.{of_bits}
+use Rattle.vector.proofs.Loops.{Made, start, carried, done}
+use Rattle.quasinewton_dense.specs.Step.{diagonalOf}
+use Rattle.quasinewton_dense.proofs.diagonal.Goals as goal
+
+pub loop-i-init : goal.loop-i-init
+unfolding diagonalOf of_bits
+loop-i-init c = start c.requires refl
+
+pub loop-i-preserved : goal.loop-i-preserved
+unfolding diagonalOf of_bits
+loop-i-preserved c = carried c.loop-i.invariant c.loop-i-test.true refl
+
+pub returns : goal.returns
+unfolding diagonalOf of_bits
+returns c = done c.loop-i.invariant c.loop-i-test.false

@@ -1,0 +1,14 @@
+-- `quasinewton_dense::diagonal` meets its contract: after i turns it has made what the definition makes of i. Assumes nothing.
+use borrow.Author.Rules.{rules}
+use mathlib.Core.Path.{refl}
+use Prim.Native.Nat.{◌-◌}
+use lib.Ieee.{of_bits}
+use Rattle.vector.proofs.Loops.{Made, start, carried, done}
+use Rattle.quasinewton_dense.specs.Step.{diagonalOf}
+use Rattle.quasinewton_dense.proofs.diagonal.Given as goal
+
+abbrev pub invariant-loop-i : goal.invariant-loop-i
+invariant-loop-i l = Made 16 (diagonalOf l.c) l.n l.h l.i
+
+abbrev pub decreases-loop-i : goal.decreases-loop-i
+decreases-loop-i l = l.n - l.i

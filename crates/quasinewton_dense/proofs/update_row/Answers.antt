@@ -1,0 +1,19 @@
+-- `quasinewton_dense::update_row` meets its contract: after j turns it has made what the definition makes of j. Assumes nothing.
+use borrow.Author.Rules.{rules}
+use mathlib.Core.Path.{refl}
+use Prim.Native.Nat.{◌-◌}
+use Rattle.vector.proofs.Loops.{Made, start, carried, done}
+use Rattle.quasinewton_dense.specs.Step.{updateRowOf}
+use Rattle.quasinewton_dense.proofs.update_row.Goals as goal
+
+pub loop-j-init : goal.loop-j-init
+unfolding updateRowOf
+loop-j-init c = start (search rules) refl
+
+pub loop-j-preserved : goal.loop-j-preserved
+unfolding updateRowOf
+loop-j-preserved c = carried c.loop-j.invariant c.loop-j-test.true refl
+
+pub returns : goal.returns
+unfolding updateRowOf
+returns c = done c.loop-j.invariant c.loop-j-test.false

@@ -1,0 +1,13 @@
+-- `quasinewton_dense::update_row` meets its contract: after j turns it has made what the definition makes of j. Assumes nothing.
+use borrow.Author.Rules.{rules}
+use mathlib.Core.Path.{refl}
+use Prim.Native.Nat.{◌-◌}
+use Rattle.vector.proofs.Loops.{Made, start, carried, done}
+use Rattle.quasinewton_dense.specs.Step.{updateRowOf}
+use Rattle.quasinewton_dense.proofs.update_row.Given as goal
+
+abbrev pub invariant-loop-j : goal.invariant-loop-j
+invariant-loop-j l = Made 16 (updateRowOf l.initial.hyi l.h l.n l.s l.i l.rho) l.coef l.hyi l.j
+
+abbrev pub decreases-loop-j : goal.decreases-loop-j
+decreases-loop-j l = l.coef - l.j

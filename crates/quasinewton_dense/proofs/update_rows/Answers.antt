@@ -1,0 +1,19 @@
+-- `quasinewton_dense::update_rows` meets its contract: after i turns it has made what the definition makes of i. Assumes nothing.
+use borrow.Author.Rules.{rules}
+use mathlib.Core.Path.{refl}
+use Prim.Native.Nat.{◌-◌}
+use Rattle.vector.proofs.Loops.{Made, start, carried, done}
+use Rattle.quasinewton_dense.specs.Step.{updateRowsOf}
+use Rattle.quasinewton_dense.proofs.update_rows.Goals as goal
+
+pub loop-i-init : goal.loop-i-init
+unfolding updateRowsOf
+loop-i-init c = start (search rules) refl
+
+pub loop-i-preserved : goal.loop-i-preserved
+unfolding updateRowsOf
+loop-i-preserved c = carried c.loop-i.invariant c.loop-i-test.true c.update_row.ensures
+
+pub returns : goal.returns
+unfolding updateRowsOf
+returns c = done c.loop-i.invariant c.loop-i-test.false

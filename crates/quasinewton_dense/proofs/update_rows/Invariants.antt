@@ -1,0 +1,13 @@
+-- `quasinewton_dense::update_rows` meets its contract: after i turns it has made what the definition makes of i. Assumes nothing.
+use borrow.Author.Rules.{rules}
+use mathlib.Core.Path.{refl}
+use Prim.Native.Nat.{◌-◌}
+use Rattle.vector.proofs.Loops.{Made, start, carried, done}
+use Rattle.quasinewton_dense.specs.Step.{updateRowsOf}
+use Rattle.quasinewton_dense.proofs.update_rows.Given as goal
+
+abbrev pub invariant-loop-i : goal.invariant-loop-i
+invariant-loop-i l = Made 16 (updateRowsOf l.initial.n l.h l.s l.hy l.rho l.coef) l.coef l.n l.i
+
+abbrev pub decreases-loop-i : goal.decreases-loop-i
+decreases-loop-i l = l.coef - l.i

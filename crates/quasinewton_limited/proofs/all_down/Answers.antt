@@ -1,0 +1,21 @@
+-- `quasinewton_limited::all_down` meets its contract: what is left to do with i pairs to go is what was to do at the start. Assumes nothing.
+use borrow.Author.Rules.{rules}
+use Prim.Native.Nat.{◌≤◌}
+use mathlib.Core.Path.{◌≡◌, refl, ap, ◌∙◌}
+use lib.Ieee.{of_bits}
+use Rattle.quasinewton_limited.specs.Step.{downFrom, allDownOf}
+use Rattle.quasinewton_limited.proofs.Loops.{down-goes, down_ends}
+use Rattle.quasinewton_limited.proofs.all_down.Goals as goal
+
+pub loop-i-init : goal.loop-i-init
+unfolding allDownOf of_bits
+loop-i-init c = (search rules, refl)
+
+pub loop-i-preserved : goal.loop-i-preserved
+loop-i-preserved c =
+    let l = c.loop-i in
+    (search rules, ap (downFrom _ _ _) c.down-next.ensures ∙ down-goes _ _ l.i l.w c.loop-i-test.true ∙ l.invariant.1)
+
+pub returns : goal.returns
+unfolding allDownOf of_bits
+returns c = down_ends _ _ c.loop-i.i c.loop-i.w c.loop-i-test.false ∙ c.loop-i.invariant.1

@@ -1,0 +1,14 @@
+-- `quasinewton_limited::all_down` meets its contract: what is left to do with i pairs to go is what was to do at the start. Assumes nothing.
+use borrow.Author.Rules.{rules}
+use Prim.Native.Nat.{◌≤◌}
+use mathlib.Core.Path.{◌≡◌, refl, ap, ◌∙◌}
+use lib.Ieee.{of_bits}
+use Rattle.quasinewton_limited.specs.Step.{downFrom, allDownOf}
+use Rattle.quasinewton_limited.proofs.Loops.{down-goes, down_ends}
+use Rattle.quasinewton_limited.proofs.all_down.Given as goal
+
+abbrev pub invariant-loop-i : goal.invariant-loop-i
+invariant-loop-i l = (l.i ≤ 16) × (downFrom l.pairs l.n l.i l.w ≡ downFrom l.pairs l.n l.initial.i l.initial.w)
+
+abbrev pub decreases-loop-i : goal.decreases-loop-i
+decreases-loop-i l = l.i

@@ -1,0 +1,19 @@
+-- `quasinewton_limited::all_up` meets its contract: after i turns it has made what the definition makes of i. Assumes nothing.
+use borrow.Author.Rules.{rules}
+use mathlib.Core.Path.{refl}
+use Prim.Native.Nat.{◌-◌}
+use Rattle.vector.proofs.Loops.{Made, start, carried, done}
+use Rattle.quasinewton_limited.specs.Step.{allUpOf}
+use Rattle.quasinewton_limited.proofs.all_up.Goals as goal
+
+pub loop-i-init : goal.loop-i-init
+unfolding allUpOf
+loop-i-init c = start (search rules) refl
+
+pub loop-i-preserved : goal.loop-i-preserved
+unfolding allUpOf
+loop-i-preserved c = carried c.loop-i.invariant c.loop-i-test.true c.up-next.ensures
+
+pub returns : goal.returns
+unfolding allUpOf
+returns c = done c.loop-i.invariant c.loop-i-test.false

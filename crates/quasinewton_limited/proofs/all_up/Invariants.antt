@@ -1,0 +1,13 @@
+-- `quasinewton_limited::all_up` meets its contract: after i turns it has made what the definition makes of i. Assumes nothing.
+use borrow.Author.Rules.{rules}
+use mathlib.Core.Path.{refl}
+use Prim.Native.Nat.{◌-◌}
+use Rattle.vector.proofs.Loops.{Made, start, carried, done}
+use Rattle.quasinewton_limited.specs.Step.{allUpOf}
+use Rattle.quasinewton_limited.proofs.all_up.Given as goal
+
+abbrev pub invariant-loop-i : goal.invariant-loop-i
+invariant-loop-i l = Made 16 (allUpOf l.pairs l.initial.q l.alphas l.n) l.k l.q l.i
+
+abbrev pub decreases-loop-i : goal.decreases-loop-i
+decreases-loop-i l = l.k - l.i

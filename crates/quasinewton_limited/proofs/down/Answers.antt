@@ -1,0 +1,8 @@
+-- `quasinewton_limited::down` meets its contract: each return follows the calls and tests that led to it. Assumes nothing.
+use borrow.Author.Rules.{rules}
+use Rattle.quasinewton_limited.specs.Step.{downOf}
+use Rattle.quasinewton_limited.proofs.down.Goals as goal
+
+pub returns : goal.returns
+unfolding downOf
+returns c = rw (← c.dot.ensures, ← c.minus_scaled-r.ensures)

@@ -1,0 +1,19 @@
+-- `quasinewton_limited::shifted` meets its contract: after i turns it has made what the definition makes of i. Assumes nothing.
+use borrow.Author.Rules.{rules}
+use mathlib.Core.Path.{refl}
+use Prim.Native.Nat.{◌-◌}
+use Rattle.vector.proofs.Loops.{Made, start, carried, done}
+use Rattle.quasinewton_limited.specs.Step.{shiftedOf}
+use Rattle.quasinewton_limited.proofs.shifted.Goals as goal
+
+pub loop-i-init : goal.loop-i-init
+unfolding shiftedOf
+loop-i-init c = start (search rules) refl
+
+pub loop-i-preserved : goal.loop-i-preserved
+unfolding shiftedOf
+loop-i-preserved c = carried c.loop-i.invariant c.loop-i-test.true refl
+
+pub returns : goal.returns
+unfolding shiftedOf
+returns c = done c.loop-i.invariant c.loop-i-test.false

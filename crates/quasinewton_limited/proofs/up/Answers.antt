@@ -1,0 +1,8 @@
+-- `quasinewton_limited::up` meets its contract: each return follows the calls and tests that led to it. Assumes nothing.
+use borrow.Author.Rules.{rules}
+use Rattle.quasinewton_limited.specs.Step.{upOf}
+use Rattle.quasinewton_limited.proofs.up.Goals as goal
+
+pub returns : goal.returns
+unfolding upOf
+returns c = rw (← c.dot.ensures, ← c.plus_scaled.ensures)

@@ -1,0 +1,13 @@
+-- `quasinewton_record::formulas::initial_step` meets its contract: each return follows the calls and tests that led to it. Assumes nothing.
+use borrow.Author.Rules.{rules}
+use Rattle.quasinewton_record.specs.Formulas.{initialStepOf}
+use lib.Ieee.{of_bits}
+use Rattle.quasinewton_record.proofs.formulas.initial_step.Goals as goal
+
+pub returns-then-first : goal.returns-then-first
+unfolding initialStepOf of_bits
+returns-then-first c = rw (← c.inf_norm.ensures, ← c.max.ensures, ← c.min.ensures, c.if-first.true)
+
+pub returns : goal.returns
+unfolding initialStepOf of_bits
+returns c = rw c.if-first.false

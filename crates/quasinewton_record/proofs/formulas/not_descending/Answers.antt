@@ -1,0 +1,13 @@
+-- `quasinewton_record::formulas::not_descending` meets its contract: each return follows the calls and tests that led to it. Assumes nothing.
+use borrow.Author.Rules.{rules}
+use Rattle.quasinewton_record.specs.Formulas.{notDescendingOf}
+use lib.Ieee.{of_bits}
+use Rattle.quasinewton_record.proofs.formulas.not_descending.Goals as goal
+
+pub returns-then-slope : goal.returns-then-slope
+unfolding notDescendingOf of_bits
+returns-then-slope c = rw c.if-slope.true
+
+pub returns : goal.returns
+unfolding notDescendingOf of_bits
+returns c = rw (← c.is_finite.ensures, c.if-slope.false)

@@ -1,0 +1,9 @@
+-- `quasinewton_record::idle` meets its contract: each return follows the calls and tests that led to it. Assumes nothing.
+use borrow.Author.Rules.{rules}
+use Rattle.quasinewton_record.specs.Descents.{idleOf}
+use lib.Ieee.{of_bits}
+use Rattle.quasinewton_record.proofs.idle.Goals as goal
+
+pub returns : goal.returns
+unfolding idleOf of_bits
+returns c = rw (← c.no_trial-search.ensures, ← c.begun-diff.ensures)

@@ -1,0 +1,12 @@
+-- `quasinewton_record::outcomes::lower` meets its contract: each return follows the calls and tests that led to it. Assumes nothing.
+use borrow.Author.Rules.{rules}
+use Rattle.quasinewton_record.specs.Outcomes.{lowerOf}
+use Rattle.quasinewton_record.proofs.outcomes.lower.Goals as goal
+
+pub returns-then-t-l : goal.returns-then-t-l
+unfolding lowerOf
+returns-then-t-l c = rw c.if-t-l.true
+
+pub returns : goal.returns
+unfolding lowerOf
+returns c = rw (← c.in_phase.ensures, c.if-t-l.false)

@@ -1,0 +1,12 @@
+-- `quasinewton_round::opening::graded` meets its contract: each return follows the calls and tests that led to it. Assumes nothing.
+use borrow.Author.Rules.{rules}
+use Rattle.quasinewton_round.specs.Opening.{gradedOf}
+use Rattle.quasinewton_round.proofs.opening.graded.Goals as goal
+
+pub returns-then-not-all_finite : goal.returns-then-not-all_finite
+unfolding gradedOf
+returns-then-not-all_finite c = rw (← c.all_finite.ensures, ← c.refused_by.ensures, c.if-not-all_finite.true)
+
+pub returns : goal.returns
+unfolding gradedOf
+returns c = rw (← c.all_finite.ensures, c.if-not-all_finite.false-raw)

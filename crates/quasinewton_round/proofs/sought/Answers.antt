@@ -1,0 +1,8 @@
+-- `quasinewton_round::sought` meets its contract: each return follows the calls and tests that led to it. Assumes nothing.
+use borrow.Author.Rules.{rules}
+use Rattle.quasinewton_round.specs.Rounds.{soughtOf}
+use Rattle.quasinewton_round.proofs.sought.Goals as goal
+
+pub returns : goal.returns
+unfolding soughtOf
+returns c = rw (← c.search_fixed.ensures, ← c.begun-s.ensures)

@@ -1,0 +1,12 @@
+-- `quasinewton_round::steepest` meets its contract: each return follows the calls and tests that led to it. Assumes nothing.
+use borrow.Author.Rules.{rules}
+use Rattle.quasinewton_round.specs.Rounds.{steepestOf}
+use Rattle.quasinewton_round.proofs.steepest.Goals as goal
+
+pub returns-then-not_descending : goal.returns-then-not_descending
+unfolding steepestOf
+returns-then-not_descending c = rw (← c.dot.ensures, ← c.not_descending.ensures, ← c.in_phase.ensures, c.if-not_descending.true)
+
+pub returns : goal.returns
+unfolding steepestOf
+returns c = rw (← c.dot.ensures, ← c.not_descending.ensures, ← c.negation.ensures, ← c.searched.ensures, c.if-not_descending.false)

@@ -1,0 +1,25 @@
+-- `vector::all_finite` meets its contract: after i turns it has made what the definition makes of i. Assumes nothing.
+use borrow.Author.Rules.{rules}
+use borrow.Author.Tests.{not-true, not-false}
+use mathlib.Core.Bool.{true}
+use mathlib.Core.Path.{refl, sym, ◌∙◌}
+use Prim.Native.Nat.{◌-◌}
+use Rattle.vector.specs.Points.{allFiniteOf}
+use Rattle.vector.proofs.Loops.{Made, start, carried, left-with, done}
+use Rattle.vector.proofs.all_finite.Goals as goal
+
+pub loop-i-init : goal.loop-i-init
+unfolding allFiniteOf
+loop-i-init c = start c.requires refl
+
+pub returns-then-not-is_finite : goal.returns-then-not-is_finite
+unfolding allFiniteOf
+returns-then-not-is_finite c = left-with c.loop-i.invariant c.loop-i-test.true (sym (not-true _ c.if-not-is_finite.true) ∙ c.is_finite.ensures) (λ k. refl)
+
+pub loop-i-preserved : goal.loop-i-preserved
+unfolding allFiniteOf
+loop-i-preserved c = carried c.loop-i.invariant c.loop-i-test.true (sym c.if-not-is_finite.false ∙ c.is_finite.ensures)
+
+pub returns : goal.returns
+unfolding allFiniteOf
+returns c = done c.loop-i.invariant c.loop-i-test.false

@@ -1,0 +1,20 @@
+-- `vector::negation` meets its contract: after i turns it has made what the definition makes of i. Assumes nothing.
+use borrow.Author.Rules.{rules}
+use mathlib.Core.Path.{refl}
+use Prim.Native.Nat.{◌-◌}
+use lib.Ieee.{of_bits}
+use Rattle.vector.specs.Points.{negationOf}
+use Rattle.vector.proofs.Loops.{Made, start, filled, done}
+use Rattle.vector.proofs.negation.Goals as goal
+
+pub loop-i-init : goal.loop-i-init
+unfolding negationOf of_bits
+loop-i-init c = start c.requires refl
+
+pub loop-i-preserved : goal.loop-i-preserved
+unfolding negationOf of_bits
+loop-i-preserved c = filled c.loop-i.invariant c.loop-i-test.true refl
+
+pub returns : goal.returns
+unfolding negationOf of_bits
+returns c = done c.loop-i.invariant c.loop-i-test.false
