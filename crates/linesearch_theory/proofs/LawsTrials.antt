@@ -88,7 +88,7 @@ trials-more : (gradients : Bool) (l : Line) (es fs gs : List Exchange) (ts : Lis
     → Trials gradients l es gs (ts ++ (t ∷ []))
 trials-more gradients l es fs gs [] t h k =
     (k.number, k.words, k.rest, k.value, k.together, k.gradient, ap (λ (z : List Exchange). z ++ (heardAt k.number Value t.x k.words ∷ k.rest)) h ∙ k.exchanges)
-trials-more gradients l es fs gs (u ∷ ts) t h k = (h.0, h.1, h.2, h.3, h.4, h.5, trials-more gradients l _ fs gs ts t h.6 k)
+trials-more gradients l es fs gs (u ∷ ts) t h k = (h.0, h.1, h.2, h.3, h.4, h.5, trials-more gradients l (es ++ (heardAt h.0 Value u.x h.1 ∷ h.2)) fs gs ts t h.6 k)
 
 module _ (read : Float → Float) (gradients : Bool) (o : WolfeOptions) (l : Line) where
   -- its step is a

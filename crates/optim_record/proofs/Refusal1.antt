@@ -91,6 +91,7 @@ module _ (r : Record) (e : by-job r ≡ true) where
   some-unknown none (inr (inr (inl j))) = (of-descent (inr j)).some-n
   some-unknown none (inr (inr (inr (inl j)))) = (of_bare j).some-n
   some-unknown none (inr (inr (inr (inr (inl j))))) = absurd (none j)
+  some-unknown none (inr (inr (inr (inr (inr x))))) = elim x [ ]
 
 pub in-range : (r : Record) → valid_of r ≡ true → InRange r
 in-range r v =
@@ -179,6 +180,7 @@ module _ (r : Record) (h : InRange r) where
   valid (inr (inr (inl j))) = descent-valid r (inr j) to-common (to-descent (inr j))
   valid (inr (inr (inr (inl j)))) = search-valid r j to-common (to-bare j)
   valid (inr (inr (inr (inr (inl j))))) = differences-valid r j to-common (h.positions.coordinate j)
+  valid (inr (inr (inr (inr (inr x))))) = elim x [ ]
 
 pub refuses-exactly : RefusesExactly
 refuses-exactly r = (in-range r, λ h. valid r h h.marks.job)

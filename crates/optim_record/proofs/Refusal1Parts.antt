@@ -78,6 +78,7 @@ module _ (k d : ℕ) where
       down (inr (inl e)) = omega arith
       down (inr (inr (inl e))) = omega arith
       down (inr (inr (inr (inl e)))) = omega arith
+      down (inr (inr (inr (inr none)))) = elim none [ ]
 
   abbrev numbers : Bool
   numbers = cond (eqb k 6) true (cond (eqb k 7) true (cond (eqb k 13) true (cond (eqb k 14) true (cond (eqb k 18) true (eqb k 19)))))

@@ -1,4 +1,5 @@
 -- A bound on one fit's questions is a bound on them in simplex and gradient fits as one. Assumes nothing.
+use Prim.Native.Nat.{◌+◌}
 use mathlib.Core.Path.{◌≡◌, refl, sym, subst}
 use mathlib.Core.Logic.{inl, inr}
 use mathlib.Core.List.{List}
@@ -11,6 +12,7 @@ use Rattle.protocol.specs.declared.GradientOptions.{GradientOptions}
 use Rattle.protocol.specs.Protocol.{Job, simplex, bfgs, lbfgs}
 use Rattle.protocol.specs.Ask.{Ask, finish, query, ◌>>=◌}
 use Rattle.protocol.specs.Rounds.{Ending, atHead, stops, fails, Verdict, goOn, stop, restart, Rounds, FitLimits, reached}
+use Rattle.protocol.specs.Dialogue.{ofKind}
 use Rattle.protocol.specs.Bounds.{Keeps, of_both, BoundLaws}
 use Rattle.protocol.specs.Fits.{mapText, mapVerdict, Positions, iterationsOf, openingOf, testsOf, roundOf, fits}
 use Rattle.protocol.proofs.Verdicts.{stop≢restart, go-on≢restart, restart-inj}
@@ -18,7 +20,7 @@ use Rattle.protocol.proofs.Verdicts.{stop≢restart, go-on≢restart, restart-in
 module _ {P Q : Type 0} (f : P → Q) (κ : Kind) (bound : ℕ) (HP : ℕ → P → Type 0) (HQ : ℕ → Q → Type 0) (h : (k : ℕ) (p : P) → HP k p → HQ k (f p)) where
   keeps-map : (k : ℕ) (m : Ask (Ending P)) → Keeps κ bound HP k m → Keeps κ bound HQ k (mapText f m)
   unfolding ◌>>=◌
-  keeps-map k (query j x c) a = (a.0, λ w. keeps-map _ (c w) (a.1 w))
+  keeps-map k (query j x c) a = (a.0, λ w. keeps-map (k + ofKind κ j) (c w) (a.1 w))
   keeps-map k (finish (atHead p)) a = h k p a
   keeps-map k (finish (stops y p)) a = tt
   keeps-map k (finish (fails m d)) a = tt

@@ -6,7 +6,7 @@ use lib.ListN.{length}
 use Rattle.bench_rosenbrock.proofs.put.Given as goal
 
 abbrev pub invariant-loop-i : goal.invariant-loop-i
-invariant-loop-i l = (l.i ≤ l.at) × (length l.x ≡ length l.initial.x)
+invariant-loop-i l = (l.i ≤ l.n) × (length l.list ≡ length l.initial.list)
 
 abbrev pub decreases-loop-i : goal.decreases-loop-i
-decreases-loop-i l = l.at - l.i
+decreases-loop-i l = l.n - l.i

@@ -15,9 +15,5 @@ returns-then-b c = rw (is-nan c.args.b c.if-b.true) (sym (no-lt-nan c.args.a))
 
 pub returns : goal.returns
 returns c =
-    let a = c.args.a in
-    let b = c.args.b in
-    let k1 = c.rank in
-    let k2 = c.rank-2 in
-    sym (signed_test k1.type-inv k2.type-inv k1.ensures k2.ensures refl)
-    ∙ rank_lt a b (held c.well_formed.0.1) (held c.well_formed.1.0.1) (number a c.if-a.false) (number b c.if-b.false)
+    sym (signed_test c.rank.type_inv c.rank-2.type_inv c.rank.ensures c.rank-2.ensures refl)
+    ∙ rank_lt c.args.a c.args.b (held c.well_formed.0.1) (held c.well_formed.1.0.1) (number c.args.a c.if-a.false) (number c.args.b c.if-b.false)

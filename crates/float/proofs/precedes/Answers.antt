@@ -10,4 +10,4 @@ pub returns : goal.returns
 returns c =
     let k1 = c.key in
     let k2 = c.key-2 in
-    sym (signed_test k1.type-inv k2.type-inv k1.ensures k2.ensures refl) ∙ keys-decide.order c.args.a c.args.b (held c.well_formed.0.1) (held c.well_formed.1.0.1)
+    sym (signed_test k1.type_inv k2.type_inv k1.ensures k2.ensures refl) ∙ keys-decide.order c.args.a c.args.b (held c.well_formed.0.1) (held c.well_formed.1.0.1)

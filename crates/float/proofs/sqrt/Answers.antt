@@ -40,5 +40,7 @@ positive_root-requires c =
 pub returns : goal.returns
 returns c =
     let numeric : Number c.args.x = number c.args.x c.if-x.false in
-    let l = positive-root-requires c tt in
-    c.positive_root.ensures ∙ above-is c.args.x (held c.well_formed.0.1) numeric l.0 l.1
+    c.positive_root.ensures
+    ∙ above-is c.args.x (held c.well_formed.0.1) numeric
+    (at_least c.args.x (held c.well_formed.0.1) numeric c.if-b-eq0.false c.if-b-eq1.false)
+    (at_most c.args.x (held c.well_formed.0.1) numeric c.if-b-eq0.false c.if-b-eq1.false c.if-b-eq-TOP.false)

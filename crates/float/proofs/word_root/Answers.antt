@@ -9,9 +9,6 @@ use Rattle.float.proofs.word_root.Goals as goal
 at_least : (w r : ℕ) → 2 ^ 58 ≤ w → NotBelowRoot w r → 2 ^ 29 ≤ r
 at_least w r h n = not-below w (2 ^ 29) r h n.most
 
-abbrev start : tie.In-loop invariant-loop decreases-loop → tie.Start invariant-loop decreases-loop
-start c = c.before.before.before.before.before
-
 pub guess-requires : goal.guess-requires
 guess-requires c = c.requires.w_bound
 
@@ -34,18 +31,18 @@ overflow_mul-r c =
 
 pub overflow_sub-r : goal.overflow_sub-r
 overflow_sub-r c =
-    let in-loop : 2 ^ 29 ≤ c.loop-r.r = at_least (start c).args.w c.loop-r.r (start c).requires.0 c.loop-r.invariant in
+    let in-loop : 2 ^ 29 ≤ c.loop-r.r = at_least c.args.w c.loop-r.r c.requires.bound c.loop-r.invariant in
     omega (arith, in-loop)
 
 pub loop-r-smaller : goal.loop-r-smaller
 loop-r-smaller c =
-    let in-loop : 2 ^ 29 ≤ c.loop-r.r = at_least (start c).args.w c.loop-r.r (start c).requires.0 c.loop-r.invariant in
+    let in-loop : 2 ^ 29 ≤ c.loop-r.r = at_least c.args.w c.loop-r.r c.requires.bound c.loop-r.invariant in
     omega (arith, in-loop)
 
 pub loop-r-preserved : goal.loop-r-preserved
 loop-r-preserved c =
-    let in-loop : 2 ^ 29 ≤ c.loop-r.r = at_least (start c).args.w c.loop-r.r (start c).requires.0 c.loop-r.invariant in
-    lowered (start c).args.w c.loop-r.r (omega (arith, in-loop)) c.loop-r.invariant (omega (arith, c.loop-r-test.true))
+    let in-loop : 2 ^ 29 ≤ c.loop-r.r = at_least c.args.w c.loop-r.r c.requires.bound c.loop-r.invariant in
+    lowered c.args.w c.loop-r.r (omega (arith, in-loop)) c.loop-r.invariant (omega (arith, c.loop-r-test.true))
 
 pub returns : goal.returns
 returns c = record { least = c.loop-r-test.false; most = c.loop-r.invariant.most }

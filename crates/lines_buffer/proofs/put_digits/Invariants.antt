@@ -12,7 +12,7 @@ use Rattle.lines_buffer.proofs.Writes.{moved, all_moved}
 use Rattle.lines_buffer.proofs.put_digits.Given as goal
 
 abbrev pub invariant-loop-i : goal.invariant-loop-i
-invariant-loop-i l = (l.i ≤ l.base) × (length l.n ≡ length l.initial.n) × (take l.out l.n ≡ take l.out l.initial.n) × (drop (l.out + l.base) l.n ≡ drop (l.out + l.base) l.initial.n) × (numeral l.at l.i l.rest ++ slice (l.out + l.i) (l.out + l.base) l.n ≡ numeral l.at l.base l.k)
+invariant-loop-i l = (l.i ≤ l.k) × (length l.out ≡ length l.initial.out) × (take l.at l.out ≡ take l.at l.initial.out) × (drop (l.at + l.k) l.out ≡ drop (l.at + l.k) l.initial.out) × (numeral l.base l.i l.rest ++ slice (l.at + l.i) (l.at + l.k) l.out ≡ numeral l.base l.k l.n)
 
 abbrev pub decreases-loop-i : goal.decreases-loop-i
 decreases-loop-i l = l.i

@@ -10,7 +10,7 @@ use Rattle.lines_buffer.proofs.Writes.{wrote_none, wrote-more, wrote-is, take_mo
 use Rattle.lines_buffer.proofs.put_text.Given as goal
 
 abbrev pub invariant-loop-i : goal.invariant-loop-i
-invariant-loop-i l = (l.i ≤ length l.at) × Written l.initial.s l.out l.s (l.out + l.i) (take l.i l.at)
+invariant-loop-i l = (l.i ≤ length l.s) × Written l.initial.out l.at l.out (l.at + l.i) (take l.i l.s)
 
 abbrev pub decreases-loop-i : goal.decreases-loop-i
-decreases-loop-i l = length l.at - l.i
+decreases-loop-i l = length l.s - l.i

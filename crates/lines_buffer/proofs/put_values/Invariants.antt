@@ -9,7 +9,7 @@ use Rattle.lines_buffer.proofs.Writes.{wrote_none, then, wrote-is, values-none, 
 use Rattle.lines_buffer.proofs.put_values.Given as goal
 
 abbrev pub invariant-loop-i : goal.invariant-loop-i
-invariant-loop-i l = (l.i ≤ l.at) × (l.p ≤ l.out + 17 * l.i) × Written l.initial.x l.out l.x l.p (valuesText (first l.i l.n))
+invariant-loop-i l = (l.i ≤ l.n) × (l.p ≤ l.at + 17 * l.i) × Written l.initial.out l.at l.out l.p (valuesText (first l.i l.x))
 
 abbrev pub decreases-loop-i : goal.decreases-loop-i
-decreases-loop-i l = l.at - l.i
+decreases-loop-i l = l.n - l.i

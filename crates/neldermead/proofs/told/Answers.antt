@@ -9,7 +9,7 @@ use Rattle.neldermead.specs.declared.Simplex.{Simplex}
 use Rattle.neldermead.specs.Step.{headedOf, toldOf}
 use Rattle.neldermead.proofs.Moves.{noted, keptOf, put_of, onwardOf, put-at, put-phase, noted-taken, noted-left, kept-taken, kept-left, put-taken, put-left, onward-fails, onward-whole, onward-heads, onward-asks, told-by, corner-below, far-below}
 use Rattle.neldermead.proofs.told.Goals as goal
-use Rattle.neldermead.proofs.told.Goals.{else-i-lt17, else-q-eq-REFLECTING, else-what-eq-BUILT, else-what-eq-KEEPS, then-i-lt17, then-q-eq-REFLECTING, then-what-eq-BUILT, then-what-eq-KEEPS}
+use Rattle.neldermead.proofs.told.Goals.{else-i-lt17, else-q-eq-REFLECTING, else-what-eq-BUILT, else-what-eq-KEEPS, then-i-lt17, then-q-eq-REFLECTING, then-what-eq-BUILT+else-not-any_finite, then-what-eq-KEEPS}
 
 pub returns-then-not-any_finite : goal.returns-then-not-any_finite
 returns-then-not-any_finite c =
@@ -18,7 +18,7 @@ returns-then-not-any_finite c =
     let put_is : c.if-i-lt17.q ≡ put_of c.args.fit c.args.s c.args.f c.args.fevals c.if-what-eq-KEEPS.q c.place-i.result = elim c.if-i-lt17.branch [ then-i-lt17 w ↦ w.q-is ∙ put-taken c.args.fit c.args.s c.args.f c.args.fevals c.if-what-eq-KEEPS.q 0 _ w.if-i-lt17.true | else-i-lt17 w ↦ w.q-is ∙ put-left c.args.fit c.args.s c.args.f c.args.fevals c.if-what-eq-KEEPS.q 0 _ w.if-i-lt17.false ] in
     let put_whole : c.if-i-lt17.q ≡ put_of c.args.fit c.args.s c.args.f c.args.fevals (keptOf c.args.fit c.args.s c.args.f c.args.fevals (noted c.args.fit c.args.s c.args.f c.args.fevals) c.outcome-what.result) c.place-i.result = put_is ∙ ap (λ (q : Simplex). put_of c.args.fit c.args.s c.args.f c.args.fevals q c.place-i.result) (kept-is ∙ ap (λ (q : Simplex). keptOf c.args.fit c.args.s c.args.f c.args.fevals q c.outcome-what.result) noted-is) in
     let told_is : onwardOf c.args.fit c.args.s c.args.f c.args.fevals c.if-i-lt17.q c.outcome-what.result c.place-i.result ≡ toldOf c.args.fit c.args.s c.args.f c.args.fevals = told-by c.args.fit c.args.s c.args.f c.args.fevals c.requires.n_bound c.requires.at_le_n c.outcome-what.result c.place-i.result c.if-i-lt17.q c.outcome-what.ensures c.place-i.ensures put_whole in
-    onward-fails c.args.fit c.args.s c.args.f c.args.fevals c.if-i-lt17.q c.outcome-what.result c.place-i.result c.any_finite.result c.if-what-eq-BUILT.true c.any_finite.ensures (not-true _ c.if-not-any_finite.true) ∙ told_is
+    onward-fails c.args.fit c.args.s c.args.f c.args.fevals c.if-i-lt17.q c.outcome-what.result c.place-i.result c.any_finite.result c.if-what-eq-BUILT.true c.any_finite.ensures c.if-not-any_finite.true ∙ told_is
 
 pub returns-then-what-gt-SHRINKING : goal.returns-then-what-gt-SHRINKING
 returns-then-what-gt-SHRINKING c =
@@ -27,7 +27,7 @@ returns-then-what-gt-SHRINKING c =
     let put_is : c.if-i-lt17.q ≡ put_of c.args.fit c.args.s c.args.f c.args.fevals c.if-what-eq-KEEPS.q c.place-i.result = elim c.if-i-lt17.branch [ then-i-lt17 w ↦ w.q-is ∙ put-taken c.args.fit c.args.s c.args.f c.args.fevals c.if-what-eq-KEEPS.q 0 _ w.if-i-lt17.true | else-i-lt17 w ↦ w.q-is ∙ put-left c.args.fit c.args.s c.args.f c.args.fevals c.if-what-eq-KEEPS.q 0 _ w.if-i-lt17.false ] in
     let put_whole : c.if-i-lt17.q ≡ put_of c.args.fit c.args.s c.args.f c.args.fevals (keptOf c.args.fit c.args.s c.args.f c.args.fevals (noted c.args.fit c.args.s c.args.f c.args.fevals) c.outcome-what.result) c.place-i.result = put_is ∙ ap (λ (q : Simplex). put_of c.args.fit c.args.s c.args.f c.args.fevals q c.place-i.result) (kept-is ∙ ap (λ (q : Simplex). keptOf c.args.fit c.args.s c.args.f c.args.fevals q c.outcome-what.result) noted-is) in
     let told_is : onwardOf c.args.fit c.args.s c.args.f c.args.fevals c.if-i-lt17.q c.outcome-what.result c.place-i.result ≡ toldOf c.args.fit c.args.s c.args.f c.args.fevals = told-by c.args.fit c.args.s c.args.f c.args.fevals c.requires.n_bound c.requires.at_le_n c.outcome-what.result c.place-i.result c.if-i-lt17.q c.outcome-what.ensures c.place-i.ensures put_whole in
-    let heads : headedOf c.args.fit c.if-i-lt17.q c.args.fevals ≡ onwardOf c.args.fit c.args.s c.args.f c.args.fevals c.if-i-lt17.q c.outcome-what.result c.place-i.result = elim c.if-what-eq-BUILT.branch [ then-what-eq-BUILT k ↦ onward-whole c.args.fit c.args.s c.args.f c.args.fevals c.if-i-lt17.q c.outcome-what.result c.place-i.result k.any_finite.result k.if-what-eq-BUILT.true k.any_finite.ensures (not-false _ k.-is.left) | else-what-eq-BUILT k ↦ onward-heads c.args.fit c.args.s c.args.f c.args.fevals c.if-i-lt17.q c.outcome-what.result c.place-i.result k.left c.if-what-gt-SHRINKING.true ] in
+    let heads : headedOf c.args.fit c.if-i-lt17.q c.args.fevals ≡ onwardOf c.args.fit c.args.s c.args.f c.args.fevals c.if-i-lt17.q c.outcome-what.result c.place-i.result = elim c.if-what-eq-BUILT.branch [ then-what-eq-BUILT+else-not-any_finite k ↦ onward-whole c.args.fit c.args.s c.args.f c.args.fevals c.if-i-lt17.q c.outcome-what.result c.place-i.result k.any_finite.result k.if-what-eq-BUILT.true k.any_finite.ensures k.if-not-any_finite.false | else-what-eq-BUILT k ↦ onward-heads c.args.fit c.args.s c.args.f c.args.fevals c.if-i-lt17.q c.outcome-what.result c.place-i.result k.if-what-eq-BUILT.false c.if-what-gt-SHRINKING.true ] in
     c.headed.ensures ∙ heads ∙ told_is
 
 pub next_at-requires : goal.next_at-requires

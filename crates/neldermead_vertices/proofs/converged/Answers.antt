@@ -15,7 +15,7 @@ swapped false false = refl
 
 pub returns-then-not-flat : goal.returns-then-not-flat
 unfolding convergedOf
-returns-then-not-flat c = rw (swapped, ← c.flat.ensures, not-true c.flat.result c.if-not-flat.true)
+returns-then-not-flat c = rw (swapped, ← c.flat.ensures, c.if-not-flat.true)
 
 pub returns : goal.returns
 unfolding convergedOf

@@ -12,6 +12,7 @@ use Rattle.neldermead_vertices.specs.declared.Vertex.{Vertex}
 use Rattle.neldermead_vertices.specs.Vertices.{put_of, insertedOf, sortedOf}
 use Rattle.neldermead_vertices.proofs.Insertion.{put-goes, put-stays, put-ends, sorted_from, sorted-starts, sorted-goes}
 use Rattle.neldermead_vertices.proofs.sorted.Goals as goal
+use Rattle.neldermead_vertices.proofs.sorted.Goals.{else-loop-j-test, then-loop-j-test+then-not-precedes}
 
 pub loop-i-init : goal.loop-i-init
 loop-i-init c =
@@ -39,12 +40,13 @@ loop-i-preserved c =
     let next = ap (λ (w : List Vertex). insertedOf w (o.i - 1) a.n) o.invariant.2 ∙ sorted-goes a.v a.n (omega arith) o.i c.loop-i-test.true o.invariant.0 in (
       omega arith,
       simp length-set still,
-      ⊎_elim
-          (λ w.
-          let end : l.j ≡ a.n = omega (arith, w.left) in
-          rw end (put-ends _ l.w a.n (omega arith)) ∙ rw end at l.invariant.2 ∙ next)
-          (λ w. put-stays _ l.w _ (omega arith) l.j w.0.taken (sym w.1.ensures ∙ not-true _ w.2.taken) ∙ l.invariant.2 ∙ next)
-          c.loop-j-test.branch,
+      elim c.loop-j-test.branch [
+        else-loop-j-test w ↦
+          let end : l.j ≡ a.n = omega (arith, w.loop-j-test.false) in
+          rw end (put-ends _ l.w a.n (omega arith)) ∙ rw end at l.invariant.2 ∙ next
+        | then-loop-j-test+then-not-precedes w ↦
+          put-stays _ l.w _ (omega arith) l.j w.loop-j-test.true (sym w.precedes.ensures ∙ w.if-not-precedes.true) ∙ l.invariant.2 ∙ next
+      ],
     )
 
 pub returns : goal.returns

@@ -14,7 +14,7 @@ use Rattle.neldermead_vertices.proofs.Insertion.{put-goes, put-stays, put-ends, 
 use Rattle.neldermead_vertices.proofs.sorted.Given as goal
 
 abbrev pub invariant-loop-j : goal.invariant-loop-j
-invariant-loop-j l = (l.j ≤ l.n) × (length l.u ≡ 17) × (put_of l.i l.u l.j l.n ≡ put_of l.i l.initial.u l.w l.n)
+invariant-loop-j l = (l.j ≤ l.n) × (length l.w ≡ 17) × (put_of l.u l.w l.j l.n ≡ put_of l.u l.initial.w l.i l.n)
 
 abbrev pub decreases-loop-j : goal.decreases-loop-j
 decreases-loop-j l = l.n - l.j

@@ -19,4 +19,4 @@ returns-then-not-all_finite c = rw (← c.all_finite.ensures, eq-eqb _ _ c.if-q-
 pub returns : goal.returns
 unfolding storesPairOf
 returns c =
-    rw (← c.all_finite.ensures, ← c.Pair-step.ensures, ← c.pair_change-change.ensures, ← c.stores.ensures, eq-eqb _ _ c.if-q-ne-SEARCHING.false, eq-eqb _ _ c.if-q-ne-FOUND.false, c.if-not-all_finite.false-raw)
+    rw (← c.all_finite.ensures, ← c.pair_step-step.ensures, ← c.pair_change-change.ensures, ← c.stores.ensures, eq-eqb _ _ c.if-q-ne-SEARCHING.false, eq-eqb _ _ c.if-q-ne-FOUND.false, c.if-not-all_finite.false-raw)

@@ -5,4 +5,4 @@ use Rattle.quasinewton.proofs.updated.Goals as goal
 
 pub returns : goal.returns
 unfolding updatedOf
-returns c = rw (← c.Pair-step.ensures, ← c.pair_change-change.ensures, ← c.update.ensures)
+returns c = rw (← c.pair_step-step.ensures, ← c.pair_change-change.ensures, ← c.update.ensures)

@@ -7,7 +7,7 @@ use Rattle.quasinewton_dense.specs.Step.{updateRowOf}
 use Rattle.quasinewton_dense.proofs.update_row.Given as goal
 
 abbrev pub invariant-loop-j : goal.invariant-loop-j
-invariant-loop-j l = Made 16 (updateRowOf l.initial.hyi l.h l.n l.s l.i l.rho) l.coef l.hyi l.j
+invariant-loop-j l = Made 16 (updateRowOf l.initial.h l.i l.s l.hy l.rho l.coef) l.n l.h l.j
 
 abbrev pub decreases-loop-j : goal.decreases-loop-j
-decreases-loop-j l = l.coef - l.j
+decreases-loop-j l = l.n - l.j

@@ -7,7 +7,7 @@ use Rattle.quasinewton_dense.specs.Step.{updateRowsOf}
 use Rattle.quasinewton_dense.proofs.update_rows.Given as goal
 
 abbrev pub invariant-loop-i : goal.invariant-loop-i
-invariant-loop-i l = Made 16 (updateRowsOf l.initial.n l.h l.s l.hy l.rho l.coef) l.coef l.n l.i
+invariant-loop-i l = Made 16 (updateRowsOf l.initial.h l.s l.hy l.rho l.coef l.n) l.n l.h l.i
 
 abbrev pub decreases-loop-i : goal.decreases-loop-i
-decreases-loop-i l = l.coef - l.i
+decreases-loop-i l = l.n - l.i

@@ -14,7 +14,7 @@ loop-i-init c = start c.requires refl
 
 pub returns-then-not-is_finite : goal.returns-then-not-is_finite
 unfolding allFiniteOf
-returns-then-not-is_finite c = left-with c.loop-i.invariant c.loop-i-test.true (sym (not-true _ c.if-not-is_finite.true) ∙ c.is_finite.ensures) (λ k. refl)
+returns-then-not-is_finite c = left-with c.loop-i.invariant c.loop-i-test.true (sym c.if-not-is_finite.true ∙ c.is_finite.ensures) (λ k. refl)
 
 pub loop-i-preserved : goal.loop-i-preserved
 unfolding allFiniteOf
