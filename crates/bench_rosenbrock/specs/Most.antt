@@ -5,5 +5,5 @@ use Rattle.std.specs.Prelude.{ℕ, Bool, true, cond, eqb, ltb}
 unfoldable pub outsideOf : ℕ → Bool
 outsideOf n = cond (eqb n 0) true (ltb 16 n)
 
-unfoldable pub most_of : ℕ → ℕ
-most_of n = cond (outsideOf n) 0 100000
+unfoldable pub mostOf : ℕ → ℕ
+mostOf n = cond (outsideOf n) 0 100000

@@ -1,7 +1,7 @@
 // Fits of Rosenbrock's chain by the engine, for the benchmark: who links the archive times whole fits, and the
 // objective alone. The contracts bound the count of questions and say no more; all is proved safe and ending.
 ghost use Rattle.std.specs.Prelude.{◌≡◌, ◌≤◌, length};
-ghost use Rattle.bench_rosenbrock.specs.Most.{outsideOf, most_of};
+ghost use Rattle.bench_rosenbrock.specs.Most.{outsideOf, mostOf};
 
 use optim::{Answered, Record};
 use protocol::{Allowance, Allowances, GradientOptions, Kind, Said, SimplexOptions, WolfeOptions};
@@ -213,7 +213,7 @@ fn outside(n: usize) -> bool
 // and behind them the outcome, is put into `list` as far as it has room.
 #[unsafe(no_mangle)]
 pub extern "C" fn rosenbrock_fit(job: u64, n: usize, gradients: bool, list: &mut [f64]) -> u64
-    ensures { result ≤ most_of n }
+    ensures { result ≤ mostOf n }
 {
     if outside(n) {
         return 0;

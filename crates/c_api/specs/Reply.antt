@@ -19,13 +19,13 @@ reasonOf LineSearchFailed = 7
 reasonOf GradientFailed = 8
 reasonOf ObjectiveResolution = 9
 
-abbrev pub ended_as : protocol.Outcome → Reply
-ended_as (fitted r) = record { what = 2; number = 0; reason = reasonOf r.reason; iterations = r.iterations; fevals = r.fevals; gevals = r.gevals; trials = 0; refusal = 0; detail = 0; f = r.f; step = plusZero; kind = 0; converged = r.converged; success = false }
-ended_as (searched r) = record { what = 3; number = 0; reason = 0; iterations = 0; fevals = 0; gevals = 0; trials = r.trials; refusal = 0; detail = 0; f = r.f; step = r.step; kind = 0; converged = false; success = r.success }
-ended_as (differenced g) = record { what = 4; number = 0; reason = 0; iterations = 0; fevals = 0; gevals = 0; trials = 0; refusal = 0; detail = 0; f = plusZero; step = plusZero; kind = 0; converged = false; success = false }
+abbrev pub endedAs : protocol.Outcome → Reply
+endedAs (fitted r) = record { what = 2; number = 0; reason = reasonOf r.reason; iterations = r.iterations; fevals = r.fevals; gevals = r.gevals; trials = 0; refusal = 0; detail = 0; f = r.f; step = plusZero; kind = 0; converged = r.converged; success = false }
+endedAs (searched r) = record { what = 3; number = 0; reason = 0; iterations = 0; fevals = 0; gevals = 0; trials = r.trials; refusal = 0; detail = 0; f = r.f; step = r.step; kind = 0; converged = false; success = r.success }
+endedAs (differenced g) = record { what = 4; number = 0; reason = 0; iterations = 0; fevals = 0; gevals = 0; trials = 0; refusal = 0; detail = 0; f = plusZero; step = plusZero; kind = 0; converged = false; success = false }
 
 -- "a question, a result or a refusal"
 unfoldable pub replyAs : protocol.Reply → Reply
 replyAs (ask q) = record { what = 1; number = q.number; reason = 0; iterations = 0; fevals = 0; gevals = 0; trials = 0; refusal = 0; detail = 0; f = plusZero; step = plusZero; kind = letter q.kind; converged = false; success = false }
-replyAs (ended o) = ended_as o
+replyAs (ended o) = endedAs o
 replyAs (refused k d) = record { what = 5; number = 0; reason = 0; iterations = 0; fevals = 0; gevals = 0; trials = 0; refusal = k; detail = d; f = plusZero; step = plusZero; kind = 0; converged = false; success = false }

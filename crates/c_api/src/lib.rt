@@ -6,10 +6,10 @@ mod options;
 mod reply;
 
 ghost use Rattle.std.specs.Prelude.{◌≡◌};
-ghost use Rattle.float.specs.Values.{max_of, minOf, finiteOf};
+ghost use Rattle.float.specs.Values.{maxOf, minOf, finiteOf};
 ghost use Rattle.float.specs.Order.{precedesOf};
 ghost use Rattle.float.specs.Sqrt.{sqrtOf};
-ghost use Rattle.protocol.specs.Protocol.{read_of};
+ghost use Rattle.protocol.specs.Protocol.{readOf};
 ghost use Rattle.objective.specs.Algorithm.{forwardOf, backwardOf, slopeAt};
 
 use objective::Differences;
@@ -28,7 +28,7 @@ pub extern "C" fn fit_sqrt(x: f64) -> f64
 
 #[unsafe(no_mangle)]
 pub extern "C" fn fit_max(a: f64, b: f64) -> f64
-    ensures { result ≡ max_of a b }
+    ensures { result ≡ maxOf a b }
 {
     float::max(a, b)
 }
@@ -58,7 +58,7 @@ pub extern "C" fn fit_is_finite(x: f64) -> bool
 // How a value told passes into a fit: one that is not finite is read as +infinity.
 #[unsafe(no_mangle)]
 pub extern "C" fn fit_read(v: f64) -> f64
-    ensures { result ≡ read_of v }
+    ensures { result ≡ readOf v }
 {
     objective::read(v)
 }

@@ -2,7 +2,7 @@
 // a read or a write fails it says so on standard error, and ends: a line that a failed read left open is not
 // decided, and no reply is written behind one that was lost.
 ghost use Rattle.std.specs.Prelude.{◌≡◌, false, drop};
-ghost use Rattle.fit_dialogue.specs.Program.{passedOf, step_of};
+ghost use Rattle.fit_dialogue.specs.Program.{passedOf, stepOf};
 
 use fit_dialogue::{Place, Step};
 use libc::{STDERR_FILENO, STDIN_FILENO, STDOUT_FILENO};
@@ -44,7 +44,7 @@ fn say_write_failed() {
 
 // One line of a part: what it brings is written, unless a reply before it was lost.
 fn line_fed(p: Place, s: &[u8], from: usize, written: bool) -> Stepped
-    ensures { (result.step ≡ step_of p from (drop from s.now)) × (written ≡ false → result.written ≡ false) }
+    ensures { (result.step ≡ stepOf p from (drop from s.now)) × (written ≡ false → result.written ≡ false) }
 {
     let mut out = [0u8; 512];
     let step = fit_dialogue::stepped(&mut out, p, s, from);

@@ -13,14 +13,14 @@ use Rattle.lines_reader.specs.Reader.{fedOf, finishedOf}
 use Rattle.fit_state.specs.States.{scannedOf}
 use Rattle.fit_dialogue.specs.declared.Place.{Place}
 use Rattle.fit_dialogue.specs.Talk.{decidedOf}
-use Rattle.fit_dialogue.specs.Program.{place_of, afterLine, and_then, passedOf, turnedOf, scannedThen, step_of}
+use Rattle.fit_dialogue.specs.Program.{placeOf, afterLine, andThen, passedOf, turnedOf, scannedThen, stepOf}
 
 pub pass-line : (p : Place) (b : ℕ) (bs : List ℕ) → eqb b 10 ≡ true →
-    passedOf p (b ∷ bs) ≡ (let t = afterLine (decidedOf p.state (finishedOf p.reader)) in and_then t.0 (passedOf t.1 bs))
+    passedOf p (b ∷ bs) ≡ (let t = afterLine (decidedOf p.state (finishedOf p.reader)) in andThen t.0 (passedOf t.1 bs))
 unfolding passedOf
 pass-line p b bs e = rw e
 
-pub pass-rest : (p : Place) (b : ℕ) (bs : List ℕ) → eqb b 10 ≡ false → passedOf p (b ∷ bs) ≡ passedOf (place_of p.state (fedOf p.reader b)) bs
+pub pass-rest : (p : Place) (b : ℕ) (bs : List ℕ) → eqb b 10 ≡ false → passedOf p (b ∷ bs) ≡ passedOf (placeOf p.state (fedOf p.reader b)) bs
 unfolding passedOf
 pass-rest p b bs e = rw e
 
@@ -42,18 +42,18 @@ step-goes p i (b ∷ bs) =
     let r = fedOf p.reader b in
     let q = scannedOf (i + 1) bs r in
     let next : q.at - i ≡ suc (q.at - (i + 1)) = omega (arith, scan-at (i + 1) bs r) in
-    pass-rest p b bs e ∙ step-goes (place_of p.state r) (i + 1) bs ∙ rw (e, next))
+    pass-rest p b bs e ∙ step-goes (placeOf p.state r) (i + 1) bs ∙ rw (e, next))
 
 scan-further : (i b : ℕ) (bs : List ℕ) (r : Reader) → i < (scannedOf i (b ∷ bs) r).at
 unfolding scannedOf
 scan-further i b bs r = by (eqb b 10) (λ p. rw p (omega arith)) (λ p. rw p (omega (arith, scan-at (i + 1) bs (fedOf r b))))
 
-pub step-further : (p : Place) (s : List ℕ) (i : ℕ) → i < length s → i < (step_of p i (drop i s)).at
+pub step-further : (p : Place) (s : List ℕ) (i : ℕ) → i < length s → i < (stepOf p i (drop i s)).at
 step-further p s i h = rw (drop-cons s i 0 h) (scan-further i (get_or s i 0) (drop (suc i) s) p.reader)
 
-pub step-rest : (p : Place) (s : List ℕ) (i : ℕ) → let q = step_of p i (drop i s) in (passedOf q.place (drop q.at s)).1 ≡ (passedOf p (drop i s)).1
+pub step-rest : (p : Place) (s : List ℕ) (i : ℕ) → let q = stepOf p i (drop i s) in (passedOf q.place (drop q.at s)).1 ≡ (passedOf p (drop i s)).1
 step-rest p s i =
-    let q = step_of p i (drop i s) in
+    let q = stepOf p i (drop i s) in
     let back : i + (q.at - i) ≡ q.at = omega (arith, scan-at i (drop i s) p.reader) in
     sym
     (ap (λ (t : List ℕ × Place). t.1) (step-goes p i (drop i s))

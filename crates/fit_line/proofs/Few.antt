@@ -16,17 +16,17 @@ use Rattle.protocol.specs.Protocol.{Reply, ask, ended, refused}
 use Rattle.linesearch.specs.Step as linesearch
 use Rattle.quasinewton.specs.Step as quasinewton
 use Rattle.optim_record.specs.declared.Record.{Record}
-use Rattle.optim_record.specs.Record.{simplexMark, bfgsMark, searchMark, gradientJobOf, valid_of}
+use Rattle.optim_record.specs.Record.{simplexMark, bfgsMark, searchMark, gradientJobOf, validOf}
 use Rattle.optim_reply.specs.Standing.{standingOf, overOf, gradientDueOf}
 use Rattle.optim_reply.proofs.Says.{stands-keeps}
 use Rattle.optim_first_record.specs.Starts.{simplexRefusalOf, simplexRecordOf, gradientRefusalOf, gradientRecordOf}
 use Rattle.optim_first_record.proofs.Limits.{simplex-limits, gradient-limits}
 use Rattle.optim_rules.specs.Rules.{repeatsOf, suitsOf}
-use Rattle.optim.specs.Answer.{steppedOf, gradedOf, taken_of, takenGradientOf, heardOf, answer_of}
+use Rattle.optim.specs.Answer.{steppedOf, gradedOf, takenOf, takenGradientOf, heardOf, answerOf}
 use Rattle.optim_start.specs.Start.{simplexOf, gradientOf, bfgsOf, lbfgsOf}
 use Rattle.optim_rules.proofs.Ranges.{ranges}
 use Rattle.fit_state.specs.declared.State.{State}
-use Rattle.fit_state.specs.States.{start_of}
+use Rattle.fit_state.specs.States.{startOf}
 use Rattle.fit_line.specs.Turns.{Few}
 
 -- of a reply with its record
@@ -54,8 +54,8 @@ graded-n : (r : Record) (g : List Float) → (gradedOf r g).n ≡ r.n
 unfolding gradedOf
 graded-n r g = by (eqb r.job searchMark) (λ p. rw p) (λ p. rw p)
 
-taken-few : (r : Record) (v : Float) → r.n ≤ 16 → FewIn (taken_of r v)
-unfolding taken_of
+taken-few : (r : Record) (v : Float) → r.n ≤ 16 → FewIn (takenOf r v)
+unfolding takenOf
 taken-few r v h = standing-few (steppedOf r v) (subst (λ (n : ℕ). n ≤ 16) (sym (stepped-n r v)) h)
 
 taken-gradient-few : (r : Record) (g : List Float) → r.n ≤ 16 → FewIn (takenGradientOf r g)
@@ -75,15 +75,15 @@ heard-few r number kind words h =
     (λ t. rw t (by (suitsOf r kind (length words)) (λ u. rw u suited) (λ u. rw u tt)))
     (λ t. rw t tt)))))
   where
-    suited : FewIn (cond (gradientDueOf r) (takenGradientOf r (fromSliceOf words r.n)) (taken_of r (get_or words 0 nan)))
+    suited : FewIn (cond (gradientDueOf r) (takenGradientOf r (fromSliceOf words r.n)) (takenOf r (get_or words 0 nan)))
     suited =
         by (gradientDueOf r)
         (λ p. rw p (taken-gradient-few r (fromSliceOf words r.n) h))
         (λ p. rw p (taken-few r (get_or words 0 nan) h))
 
-pub answer-few : (r : Record) (number kind : ℕ) (words : List Float) → Few (answer_of r number kind words).0 (answer_of r number kind words).1.n
-unfolding answer_of
-answer-few r number kind words = by (valid_of r) (λ p. rw p (heard-few r number kind words (ranges r p).few)) (λ p. rw p tt)
+pub answer-few : (r : Record) (number kind : ℕ) (words : List Float) → Few (answerOf r number kind words).0 (answerOf r number kind words).1.n
+unfolding answerOf
+answer-few r number kind words = by (validOf r) (λ p. rw p (heard-few r number kind words (ranges r p).few)) (λ p. rw p tt)
 
 -- ---- starts
 
@@ -107,8 +107,8 @@ gradient-few x o a limited =
     (λ q. rw q tt)))
     (λ p. rw p tt)
 
-pub start-few : (s : State) (x : List Float) → Few (start_of s x).0 (start_of s x).1.n
-unfolding start_of bfgsOf lbfgsOf
+pub start-few : (s : State) (x : List Float) → Few (startOf s x).0 (startOf s x).1.n
+unfolding startOf bfgsOf lbfgsOf
 start-few s x =
     by (eqb s.job simplexMark)
     (λ p. rw p (simplex-few x s.options s.allowances))

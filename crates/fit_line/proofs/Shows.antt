@@ -16,7 +16,7 @@ use Rattle.protocol.specs.declared.Said.{Said}
 use Rattle.protocol.specs.declared.Said.TheVariants.{Ask, Fitted, Searched, Differenced, Refused}
 use Rattle.protocol.specs.Protocol.{Question, Result, replyOf}
 use Rattle.lines_buffer.specs.Texts.{filled}
-use Rattle.lines_print.specs.Print.{limitedOf, questionOf, result_of, askText, endText, noText}
+use Rattle.lines_print.specs.Print.{limitedOf, questionOf, resultOf, askText, endText, noText}
 use Rattle.fit_line.specs.Turns.{Few, replyText}
 
 limited-is : (n : ℕ) → n ≤ 16 → limitedOf n ≡ n
@@ -24,8 +24,8 @@ unfolding limitedOf
 limited-is n h = by (ltb n 16) (λ p. rw p) (λ p. rw p (let l : 16 ≤ n = ltb-false n 16 p in omega arith))
 
 -- a text that was put is put where it is another's equal
-pub put_is : (before : List ℕ) {t u after : List ℕ} {n : ℕ} → t ≡ u → (n ≡ length t) × (after ≡ filled before t) → (n ≡ length u) × (after ≡ filled before u)
-put_is before {t} {u} {after} {n} e h = subst (λ (v : List ℕ). (n ≡ length v) × (after ≡ filled before v)) e h
+pub put-is : (before : List ℕ) {t u after : List ℕ} {n : ℕ} → t ≡ u → (n ≡ length t) × (after ≡ filled before t) → (n ≡ length u) × (after ≡ filled before u)
+put-is before {t} {u} {after} {n} e h = subst (λ (v : List ℕ). (n ≡ length v) × (after ≡ filled before v)) e h
 
 pub ask-shown : (w : Said) (n : ℕ) (x g : List Float) (number : ℕ) (kind : Kind) → w ≡ Ask number kind → Few (replyOf w n x g) n
     → askText (questionOf number kind x n) ≡ replyText (replyOf w n x g)
@@ -35,7 +35,7 @@ ask-shown w n x g number kind e h =
     ap (λ (m : ℕ). let q : Question = record { number = number; kind = kind; point = first m x } in askText q) (limited-is n few)
     ∙ sym (ap (λ (v : Said). replyText (replyOf v n x g)) e)
 
-pub end-shown : (w : Said) (n : ℕ) (x g : List Float) (s : Summary) → w ≡ Fitted s → Few (replyOf w n x g) n → endText (result_of s x n) ≡ replyText (replyOf w n x g)
+pub end-shown : (w : Said) (n : ℕ) (x g : List Float) (s : Summary) → w ≡ Fitted s → Few (replyOf w n x g) n → endText (resultOf s x n) ≡ replyText (replyOf w n x g)
 unfolding replyText replyOf
 end-shown w n x g s e h =
     let few : n ≤ 16 = subst (λ (v : Said). Few (replyOf v n x g) n) e h in

@@ -1,14 +1,14 @@
 -- What each line of the fit program brings: what is printed, and the next state. Definitions only.
 use Rattle.std.specs.Prelude.{ℕ, ◌≤◌, cond, List, [], take, Float}
 use Rattle.protocol.specs.Protocol.{fitted, searched, differenced, Reply, ask, ended, refused}
-use Rattle.optim.specs.Answer.{answer_of}
+use Rattle.optim.specs.Answer.{answerOf}
 use Rattle.lines_reader.specs.declared.LineRead.{LineRead}
 use Rattle.lines_reader.specs.Forms.{stopped, line3, answers}
 use Rattle.lines_forms.specs.Lines.{firstLineOf, pointLineOf, answerLineOf}
 use Rattle.lines_options.specs.Options.{simplexLineOf, gradientLineOf}
 use Rattle.lines_print.specs.Print.{askText, endText, noText}
 use Rattle.fit_state.specs.declared.State.{State}
-use Rattle.fit_state.specs.States.{followingOf, badOf, formAfter, start_of, keptOf}
+use Rattle.fit_state.specs.States.{followingOf, badOf, formAfter, startOf, keptOf}
 
 -- ---- replies
 
@@ -29,16 +29,16 @@ Few (refused number detail) n = Unit {0}
 -- ---- lines
 
 -- Line 1
-unfoldable pub first_of : State → LineRead → List ℕ × State
-first_of s l =
+unfoldable pub firstOf : State → LineRead → List ℕ × State
+firstOf s l =
     let f = firstLineOf l in
     cond f.ok
     ([], record { due = formAfter f.job; number = followingOf s.number; job = f.job; n = f.n; options = s.options; gradient = s.gradient; allowances = s.allowances; engine = s.engine })
     (badOf s)
 
 -- Line 2 of simplex
-unfoldable pub second_of : State → LineRead → List ℕ × State
-second_of s l =
+unfoldable pub secondOf : State → LineRead → List ℕ × State
+secondOf s l =
     let f = simplexLineOf l in
     cond f.ok
     ([], record { due = line3; number = followingOf s.number; job = s.job; n = s.n; options = f.options; gradient = s.gradient; allowances = f.allowances; engine = s.engine })
@@ -61,7 +61,7 @@ dueAfter (refused number detail) = stopped
 -- a start at x
 unfoldable pub startedOf : State → List Float → List ℕ × State
 startedOf s x =
-    let o = start_of s x in
+    let o = startOf s x in
     (replyText o.0, record { due = dueAfter o.0; number = followingOf s.number; job = s.job; n = s.n; options = s.options; gradient = s.gradient; allowances = s.allowances; engine = o.1 })
 
 -- Line 3
@@ -71,7 +71,7 @@ thirdOf s l = let f = pointLineOf l s.n in cond f.ok (startedOf s (take (keptOf 
 -- "after a refused answer or an ended fit it reads on, printing each reply"
 unfoldable pub toldOf : State → ℕ → ℕ → List Float → List ℕ × State
 toldOf s number kind words =
-    let o = answer_of s.engine number kind words in
+    let o = answerOf s.engine number kind words in
     (replyText o.0, record { due = s.due; number = followingOf s.number; job = s.job; n = s.n; options = s.options; gradient = s.gradient; allowances = s.allowances; engine = o.1 })
 
 -- an answer

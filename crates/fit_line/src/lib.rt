@@ -4,7 +4,7 @@ ghost use Rattle.std.specs.Prelude.{◌≡◌, length};
 ghost use Rattle.lines_buffer.specs.Texts.{filled};
 ghost use Rattle.optim_record.specs.Record.{outcomeOf};
 ghost use Rattle.fit_state.specs.States.{Turned};
-ghost use Rattle.fit_line.specs.Turns.{replyText, Few, dueAfter, first_of, second_of, secondGradientOf, startedOf, thirdOf, toldOf, heardOf};
+ghost use Rattle.fit_line.specs.Turns.{replyText, Few, dueAfter, firstOf, secondOf, secondGradientOf, startedOf, thirdOf, toldOf, heardOf};
 
 use fit_state::{State, Turn, bad, following, form_after, kept, start};
 use lines_options::LineRead;
@@ -14,7 +14,7 @@ use protocol::Said;
 
 // Line 1.
 pub fn first(out: &mut [u8; 512], s: State, l: LineRead) -> Turn
-    ensures { Turned (first_of s l) out.old out.new result }
+    ensures { Turned (firstOf s l) out.old out.new result }
 {
     let f = lines_options::first_line(l);
     if f.ok {
@@ -30,7 +30,7 @@ pub fn first(out: &mut [u8; 512], s: State, l: LineRead) -> Turn
 
 // Line 2 of simplex.
 pub fn second(out: &mut [u8; 512], s: State, l: LineRead) -> Turn
-    ensures { Turned (second_of s l) out.old out.new result }
+    ensures { Turned (secondOf s l) out.old out.new result }
 {
     let f = lines_options::simplex_line(l);
     let options = f.options;

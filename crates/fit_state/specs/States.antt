@@ -56,8 +56,8 @@ formAfter job = cond (eqb job simplexMark) simplexLine2 gradientLine2
 -- ---- a start
 
 -- the engine's reply to the start of the job at x
-unfoldable pub start_of : State → List Float → Reply × Record
-start_of s x =
+unfoldable pub startOf : State → List Float → Reply × Record
+startOf s x =
     cond (eqb s.job simplexMark) (simplexOf x s.options s.allowances)
     (cond (eqb s.job bfgsMark) (bfgsOf x s.gradient s.allowances)
     (lbfgsOf x s.gradient s.allowances))

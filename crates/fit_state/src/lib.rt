@@ -2,7 +2,7 @@
 // the job, and the scan of the input for a line's end.
 ghost use Rattle.std.specs.Prelude.{◌≡◌, drop};
 ghost use Rattle.optim_record.specs.Record.{outcomeOf};
-ghost use Rattle.fit_state.specs.States.{Turned, begunOf, followingOf, keptOf, badOf, formAfter, start_of, scannedOf};
+ghost use Rattle.fit_state.specs.States.{Turned, begunOf, followingOf, keptOf, badOf, formAfter, startOf, scannedOf};
 
 use lines_options::Reader;
 use lines_reader::{GRADIENT_LINE2, LINE1, SIMPLEX_LINE2, STOPPED};
@@ -109,7 +109,7 @@ pub fn form_after(job: u64) -> u64
 
 // The engine's reply to the start of the job at x.
 pub fn start(s: State, x: &[f64]) -> Answered
-    ensures { outcomeOf result ≡ start_of s x.now }
+    ensures { outcomeOf result ≡ startOf s x.now }
 {
     if s.job == SIMPLEX {
         return optim::simplex(x, s.options, s.allowances);

@@ -7,14 +7,14 @@ use lib.Dec.{eqb}
 use Rattle.float.proofs.Tests.{by}
 use Rattle.lines_reader.specs.declared.LineRead.{LineRead}
 use Rattle.lines_reader.specs.declared.Reader.{Reader}
-use Rattle.lines_reader.specs.Forms.{empty, line_of, stopped}
+use Rattle.lines_reader.specs.Forms.{empty, lineOf, stopped}
 use Rattle.lines_reader.specs.Reader.{startedOf, fedOf, fedAll, finishedOf, begunOf as lineBegun}
 use Rattle.lines_theory.proofs.Whole.{reader-laws}
 use Rattle.fit_dialogue.specs.declared.Place.{Place}
 use Rattle.fit_state.specs.declared.State.{State}
 use Rattle.fit_state.specs.States.{begunOf}
 use Rattle.fit_dialogue.specs.Talk.{decidedOf}
-use Rattle.fit_dialogue.specs.Program.{lastLine, lines_from, printed, outputOf, byBytes, place_of, firstPlace, afterLine, passedOf}
+use Rattle.fit_dialogue.specs.Program.{lastLine, linesFrom, printed, outputOf, byBytes, placeOf, firstPlace, afterLine, passedOf}
 use Rattle.fit_dialogue.proofs.Steps.{pass-line, pass-rest, step-goes}
 use Rattle.fit_theory.specs.Laws.{from, ProgramLaws}
 use Rattle.fit_theory.proofs.Jobs.{jobs}
@@ -28,7 +28,7 @@ fed-snoc r (a ∷ bs) b = fed-snoc (fedOf r a) bs b
 abbrev reading : State → List ℕ → Reader
 reading s p = fedAll (startedOf s.due) p
 
-last : (s : State) (p : List ℕ) → cond (not (empty p)) (decidedOf s (line_of s.due p)).0 [] ≡ printed s (lastLine p)
+last : (s : State) (p : List ℕ) → cond (not (empty p)) (decidedOf s (lineOf s.due p)).0 [] ≡ printed s (lastLine p)
 unfolding empty lastLine printed
 last s [] = refl
 last s (b ∷ bs) = sym (append-nil _)
@@ -37,7 +37,7 @@ at-end : (s : State) (p : List ℕ) → byBytes s (reading s p) [] ≡ printed s
 unfolding byBytes
 at-end s p =
     ap (λ (c : Bool). cond c (decidedOf s (finishedOf (reading s p))).0 []) (reader-laws.begun-is s.due p)
-    ∙ ap (λ (l : LineRead). cond (not (empty p)) (decidedOf s l).0 []) (reader-laws.read_is s.due p)
+    ∙ ap (λ (l : LineRead). cond (not (empty p)) (decidedOf s l).0 []) (reader-laws.read-is s.due p)
     ∙ last s p
 
 -- what follows a line
@@ -52,35 +52,35 @@ to-rest : (s : State) (r : Reader) (b : ℕ) (bs : List ℕ) → eqb b 10 ≡ fa
 unfolding byBytes
 to-rest s r b bs p = rw p
 
-lines_end : (p : List ℕ) (b : ℕ) (bs : List ℕ) → eqb b 10 ≡ true → lines_from p (b ∷ bs) ≡ p ∷ lines_from [] bs
-unfolding lines_from
-lines_end p b bs e = rw e
+lines-end : (p : List ℕ) (b : ℕ) (bs : List ℕ) → eqb b 10 ≡ true → linesFrom p (b ∷ bs) ≡ p ∷ linesFrom [] bs
+unfolding linesFrom
+lines-end p b bs e = rw e
 
-lines-on : (p : List ℕ) (b : ℕ) (bs : List ℕ) → eqb b 10 ≡ false → lines_from p (b ∷ bs) ≡ lines_from (p ++ (b ∷ [])) bs
-unfolding lines_from
+lines-on : (p : List ℕ) (b : ℕ) (bs : List ℕ) → eqb b 10 ≡ false → linesFrom p (b ∷ bs) ≡ linesFrom (p ++ (b ∷ [])) bs
+unfolding linesFrom
 lines-on p b bs e = rw e
 
 -- from a state on, with p of the line read already
-by_lines : (s : State) (p bs : List ℕ) → byBytes s (reading s p) bs ≡ printed s (lines_from p bs)
-unfolding lines_from printed fedAll
-by_lines s p [] = at-end s p
-by_lines s p (b ∷ bs) =
+by-lines : (s : State) (p bs : List ℕ) → byBytes s (reading s p) bs ≡ printed s (linesFrom p bs)
+unfolding linesFrom printed fedAll
+by-lines s p [] = at-end s p
+by-lines s p (b ∷ bs) =
     by (eqb b 10)
     (λ e.
-    let t : List ℕ × State = decidedOf s (line_of s.due p) in
+    let t : List ℕ × State = decidedOf s (lineOf s.due p) in
     to-line s (reading s p) b bs e
-    ∙ ap (λ (l : LineRead). after bs (decidedOf s l)) (reader-laws.read_is s.due p)
-    ∙ ap (λ (o : List ℕ). t.0 ++ o) (by_lines t.1 [] bs)
-    ∙ sym (ap (printed s) (lines_end p b bs e)))
+    ∙ ap (λ (l : LineRead). after bs (decidedOf s l)) (reader-laws.read-is s.due p)
+    ∙ ap (λ (o : List ℕ). t.0 ++ o) (by-lines t.1 [] bs)
+    ∙ sym (ap (printed s) (lines-end p b bs e)))
     (λ e.
     to-rest s (reading s p) b bs e
     ∙ ap (λ (r : Reader). byBytes s r bs) (sym (fed-snoc (startedOf s.due) p b))
-    ∙ by_lines s (p ++ (b ∷ [])) bs
+    ∙ by-lines s (p ++ (b ∷ [])) bs
     ∙ sym (ap (printed s) (lines-on p b bs e)))
 
 whole : (bs : List ℕ) → byBytes begunOf (startedOf begunOf.due) bs ≡ outputOf bs
 unfolding outputOf fedAll
-whole bs = by_lines begunOf [] bs
+whole bs = by-lines begunOf [] bs
 
 -- ---- a part of the input at a time
 
@@ -97,7 +97,7 @@ part-goes p (b ∷ bs) cs =
     ∙ sym (ap (λ (q : List ℕ × Place). q.0 ++ from q.1 cs) (pass-line p b bs e)))
     (λ e.
     to-rest p.state p.reader b (bs ++ cs) e
-    ∙ part-goes (place_of p.state (fedOf p.reader b)) bs cs
+    ∙ part-goes (placeOf p.state (fedOf p.reader b)) bs cs
     ∙ sym (ap (λ (q : List ℕ × Place). q.0 ++ from q.1 cs) (pass-rest p b bs e)))
 
 -- ---- after the stop

@@ -2,7 +2,7 @@
 use Rattle.std.specs.Prelude.{ℕ, ◌≤◌, ◌≡◌, true, List, [], ◌++◌}
 use Rattle.optim_record.specs.Record.{simplexMark, lbfgsMark}
 use Rattle.lines_reader.specs.declared.Reader.{Reader}
-use Rattle.lines_reader.specs.Forms.{line_of, stopped, line1}
+use Rattle.lines_reader.specs.Forms.{lineOf, stopped, line1}
 use Rattle.lines_forms.specs.Lines.{firstLineOf}
 use Rattle.fit_dialogue.specs.declared.Place.{Place}
 use Rattle.fit_state.specs.declared.State.{State}
@@ -27,4 +27,4 @@ pub record ProgramLaws : Type 0 where
   -- "It stops after `bad`, a refused start": nothing more is printed
   pub silent : (s : State) (r : Reader) (bs : List ℕ) → s.due ≡ stopped → byBytes s r bs ≡ []
   -- line 1 has one of three jobs: what is neither simplex nor bfgs is lbfgs
-  pub jobs : (bs : List ℕ) → (firstLineOf (line_of line1 bs)).ok ≡ true → FitMark (firstLineOf (line_of line1 bs)).job
+  pub jobs : (bs : List ℕ) → (firstLineOf (lineOf line1 bs)).ok ≡ true → FitMark (firstLineOf (lineOf line1 bs)).job

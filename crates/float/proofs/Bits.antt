@@ -54,36 +54,36 @@ unfolding fits
 fits-bare s t zero e h = h
 fits-bare s t (suc m) e h = h
 
-top_field : (s : Bool) (t : ℕ) → finite (of_fields binary64 s 2047 t) ≡ false
+top-field : (s : Bool) (t : ℕ) → finite (of_fields binary64 s 2047 t) ≡ false
 unfolding of_fields
-top_field s zero = refl
-top_field s (suc t) = rw eqb-suc-zero
+top-field s zero = refl
+top-field s (suc t) = rw eqb-suc-zero
 
-not_finite : (b : ℕ) → 0x7ff0_0000_0000_0000 ≤ b → b < 2 ^ 63 → finite (bits b) ≡ false
+not-finite : (b : ℕ) → 0x7ff0_0000_0000_0000 ≤ b → b < 2 ^ 63 → finite (bits b) ≡ false
 unfolding of_bits
-not_finite b l h =
+not-finite b l h =
     let field : b % top binary64 / hid binary64 ≡ 2047 = omega arith in
-    rw field (top_field (leb (top binary64) b) (b % hid binary64))
+    rw field (top-field (leb (top binary64) b) (b % hid binary64))
 
 bare-in : (m : ℕ) (e : ℤ) → F64 (fin false m e) → to_bits binary64 (fin false m e) < 2 ^ 63
 bare-in m e h = omega (arith, to_bits-lt binary64 (fin true m e) (fits-bare false true m e h), sign-apart true m e)
 
 -- a finite magnitude's bits are below the infinity's
 pub bare-lt : (m : ℕ) (e : ℤ) → F64 (fin false m e) → to_bits binary64 (fin false m e) < 0x7ff0_0000_0000_0000
-bare-lt m e h = lt_of_not-le (λ g. true≢false (ap finite (sym (of_bits-to_bits binary64 (fin false m e) h)) ∙ not_finite (to_bits binary64 (fin false m e)) g (bare-in m e h)))
+bare-lt m e h = lt_of_not-le (λ g. true≢false (ap finite (sym (of_bits-to_bits binary64 (fin false m e) h)) ∙ not-finite (to_bits binary64 (fin false m e)) g (bare-in m e h)))
 
-pub inf_bits : (s : Bool) → to_bits binary64 (inf s) ≡ cond s (2 ^ 63) 0 + 0x7ff0_0000_0000_0000
+pub inf-bits : (s : Bool) → to_bits binary64 (inf s) ≡ cond s (2 ^ 63) 0 + 0x7ff0_0000_0000_0000
 unfolding to_bits
-inf_bits s = refl
+inf-bits s = refl
 
-pub zero_is : bits 0 ≡ plusZero
+pub zero-is : bits 0 ≡ plusZero
 unfolding of_bits
-zero_is = refl
+zero-is = refl
 
 -- only a zero's magnitude has no bit set
-pub zero_bits : (m : ℕ) (e : ℤ) → F64 (fin false m e) → to_bits binary64 (fin false m e) ≡ 0 → m ≡ 0
-zero_bits m e f z =
-    let same : fin false m e ≡ plusZero = sym (of_bits-to_bits binary64 (fin false m e) f) ∙ ap bits z ∙ zero_is in
+pub zero-bits : (m : ℕ) (e : ℤ) → F64 (fin false m e) → to_bits binary64 (fin false m e) ≡ 0 → m ≡ 0
+zero-bits m e f z =
+    let same : fin false m e ≡ plusZero = sym (of_bits-to_bits binary64 (fin false m e) f) ∙ ap bits z ∙ zero-is in
     cc
 
 -- ---- a number's bits are its sign's and those of |x|
@@ -103,14 +103,14 @@ abs-number (fin s m e) h = tt
 pub abs-most : (x : Float) → F64 x → Number x → to_bits binary64 (absOf x) ≤ 0x7ff0_0000_0000_0000
 unfolding is_nan absOf
 abs-most nan f h = absurd h
-abs-most (inf s) f h = omega (arith, inf_bits false)
+abs-most (inf s) f h = omega (arith, inf-bits false)
 abs-most (fin s m e) f h = omega (arith, bare-lt m e (fits-bare s false m e f))
 
 pub parted : (x : Float) → Number x → to_bits binary64 x ≡ cond (negative x) (2 ^ 63) 0 + to_bits binary64 (absOf x)
 unfolding is_nan absOf
 parted nan h = absurd h
-parted (inf true) h = omega (arith, inf_bits true, inf_bits false)
-parted (inf false) h = omega (arith, inf_bits false)
+parted (inf true) h = omega (arith, inf-bits true, inf-bits false)
+parted (inf false) h = omega (arith, inf-bits false)
 parted (fin s m e) h = sign-apart s m e
 
 -- so a mask takes the sign off, and a shift leaves it alone
@@ -125,30 +125,30 @@ alone false n a e h = omega arith
 pub magnitude : (x : Float) → F64 x → Number x → bit_and (to_bits binary64 x) 0x7fff_ffff_ffff_ffff ≡ to_bits binary64 (absOf x)
 magnitude x f h = and_mask (to_bits binary64 x) 63 ∙ off (negative x) (to_bits binary64 (absOf x)) (to_bits binary64 x) (parted x h) (abs-most x f h)
 
-pub sign_bit : (x : Float) → F64 x → Number x → to_bits binary64 x / 2 ^ 63 ≡ cond (negative x) 1 0
-sign_bit x f h = alone (negative x) (to_bits binary64 (absOf x)) (to_bits binary64 x) (parted x h) (abs-most x f h)
+pub sign-bit : (x : Float) → F64 x → Number x → to_bits binary64 x / 2 ^ 63 ≡ cond (negative x) 1 0
+sign-bit x f h = alone (negative x) (to_bits binary64 (absOf x)) (to_bits binary64 x) (parted x h) (abs-most x f h)
 
 -- the sign by its bit, as a test leaves it
 pub plus : (x : Float) → F64 x → Number x → to_bits binary64 x / 2 ^ 63 ≡ 0 → negative x ≡ false
-plus x f h z = go (negative x) (sym (sign_bit x f h) ∙ z)
+plus x f h z = go (negative x) (sym (sign-bit x f h) ∙ z)
   where
     go : (s : Bool) → ◌≡◌ {A = ℕ} (cond s 1 0) 0 → s ≡ false
     go true e = absurd (omega arith)
     go false e = refl
 
 pub minus : (x : Float) → F64 x → Number x → (to_bits binary64 x / 2 ^ 63 ≡ 0 → ⊥) → negative x ≡ true
-minus x f h n = go (negative x) (sign_bit x f h)
+minus x f h n = go (negative x) (sign-bit x f h)
   where
     go : (s : Bool) → to_bits binary64 x / 2 ^ 63 ≡ cond s 1 0 → s ≡ true
     go true e = refl
     go false e = absurd (n e)
 
 -- ---- |x| and finiteness
-pub abs_is : (x : Float) → F64 x → Number x → bits (bit_and (to_bits binary64 x) 0x7fff_ffff_ffff_ffff) ≡ absOf x
-abs_is x f h = rw (magnitude x f h) (of_bits-to_bits binary64 (absOf x) (abs-fits x f))
+pub abs-is : (x : Float) → F64 x → Number x → bits (bit_and (to_bits binary64 x) 0x7fff_ffff_ffff_ffff) ≡ absOf x
+abs-is x f h = rw (magnitude x f h) (of_bits-to_bits binary64 (absOf x) (abs-fits x f))
 
 pub abs-no-nan : (x : Float) → F64 x → Number x → T (not (nan_bits binary64 (bit_and (to_bits binary64 x) 0x7fff_ffff_ffff_ffff)))
-abs-no-nan x f h = rw (nan_bits_is, abs_is x f h) (abs-number x h)
+abs-no-nan x f h = rw (nan_bits_is, abs-is x f h) (abs-number x h)
 
 -- the exponent's field
 pub exponent : (x : Float) → F64 x → Number x → bit_and (to_bits binary64 x / 2 ^ 52) 0x7ff ≡ to_bits binary64 (absOf x) / 2 ^ 52

@@ -4,7 +4,7 @@ use mathlib.Core.Bool.{true, false, cond}
 use lib.Ieee.{Float, nan, inf, fin, binary64, lt, is_nan, fits}
 use lib.Ieee.Fits.{add-fits, sub-fits, mul-fits, div-fits, neg-fits, cond-fits}
 use Rattle.float.specs.Binary64.{F64}
-use Rattle.float.specs.Values.{signumOf, max_of, minOf}
+use Rattle.float.specs.Values.{signumOf, maxOf, minOf}
 use Rattle.float.specs.Sqrt.{sqrtOf}
 use Rattle.float.specs.Laws.{Closed}
 use Rattle.float.proofs.Bits.{abs-fits}
@@ -16,8 +16,8 @@ signum-fits nan = tt
 signum-fits (inf s) = tt
 signum-fits (fin s m e) = tt
 
-max-fits : (x y : Float) → F64 x → F64 y → F64 (max_of x y)
-unfolding max_of
+max-fits : (x y : Float) → F64 x → F64 y → F64 (maxOf x y)
+unfolding maxOf
 max-fits x y f g = cond-fits binary64 (is_nan x) y (cond (lt x y) y x) g (cond-fits binary64 (lt x y) y x g f)
 
 min-fits : (x y : Float) → F64 x → F64 y → F64 (minOf x y)

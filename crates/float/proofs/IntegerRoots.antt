@@ -107,11 +107,11 @@ module _ {w s : ℕ} (h : WordRoot w s) where
   pub lifted : rest % s * 2 ^ 25 % 2 ^ 64 ≡ rest % s * 2 ^ 25
   lifted = mod-eq_of_lt (omega (arith, left, s-most))
 
-  pub all_digits : rest / s * (rest / s) ≤ rest % s * 2 ^ 25 → IntegerRoot (w * 2 ^ 48) joined
-  all_digits l = record { least = omega (arith, balance); most = omega (arith, balance, left, raised, next-square joined) }
+  pub all-digits : rest / s * (rest / s) ≤ rest % s * 2 ^ 25 → IntegerRoot (w * 2 ^ 48) joined
+  all-digits l = record { least = omega (arith, balance); most = omega (arith, balance, left, raised, next-square joined) }
 
-  pub one_less : rest % s * 2 ^ 25 < rest / s * (rest / s) → IntegerRoot (w * 2 ^ 48) (joined - 1)
-  one_less l =
+  pub one-less : rest % s * 2 ^ 25 < rest / s * (rest / s) → IntegerRoot (w * 2 ^ 48) (joined - 1)
+  one-less l =
       let k = joined - 1 in
       let e : k + 1 ≡ joined = omega (arith, s-least, raised) in
       let again : (k + 1) * (k + 1) ≡ joined * joined = ap (λ (x : ℕ). x * x) e in

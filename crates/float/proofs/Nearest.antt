@@ -17,13 +17,13 @@ use Rattle.float.specs.Binary64.{F64, bits}
 use Rattle.float.specs.Roots.{quanta, quantaOf, twiceRoot, NearestRoot, SquareRoot, CubeRoot, differenceFactor}
 use Rattle.float.specs.Sqrt.{IntegerRoot, isqrt, rootOf, sqrtOf, quantaOfBits, FullWidth}
 use Rattle.float.specs.Laws.{RootsAreNearest}
-use Rattle.float.proofs.Bits.{bare-lt, zero_bits}
-use Rattle.float.proofs.Ranks.{placed, bits_are, one_value}
+use Rattle.float.proofs.Bits.{bare-lt, zero-bits}
+use Rattle.float.proofs.Ranks.{placed, bits-are, one-value}
 use Rattle.float.proofs.IntegerRoots.{next-square, twice-square}
 use Rattle.float.proofs.Widths.{made, full-low, full-high}
 use Rattle.float.proofs.Quanta.{quanta-of, quanta-odd}
-use Rattle.float.proofs.Rounded.{square, digits, radicand, scaled, own_root, whole, r-low, made_bits, as-odd, result-is}
-use Rattle.float.proofs.Grid.{exact, sum_below, nearest}
+use Rattle.float.proofs.Rounded.{square, digits, radicand, scaled, own-root, whole, r-low, made-bits, as-odd, result-is}
+use Rattle.float.proofs.Grid.{exact, sum-below, nearest}
 
 pow-two : (a : ℕ) → a ^ 2 ≡ a * a
 pow-two a = pow-suc a 1 ∙ ap (λ (x : ℕ). x * a) (pow-suc a 0 ∙ ap (λ (x : ℕ). x * a) (pow-zero a) ∙ one-mul a)
@@ -46,27 +46,27 @@ module _ (b m e : ℕ) (f : FullWidth b m e) where
   U = 2 ^ (e / 2 - 1)
 
   root-of-N : IntegerRoot N r
-  root-of-N = whole b m e f r (own_root b m e f)
+  root-of-N = whole b m e f r (own-root b m e f)
 
-  at_least : 2 ^ 53 ≤ r
-  at_least = r-low b m e f r (own_root b m e f)
+  at-least : 2 ^ 53 ≤ r
+  at-least = r-low b m e f r (own-root b m e f)
 
-  is-root : bits (made_bits b m e f r (own_root b m e f)) ≡ rootOf (quantaOfBits b)
-  is-root = result-is b m e f r (own_root b m e f)
+  is-root : bits (made-bits b m e f r (own-root b m e f)) ≡ rootOf (quantaOfBits b)
+  is-root = result-is b m e f r (own-root b m e f)
 
   as-digits : rootOf (quantaOfBits b) ≡ odd 53 false Q (e / 2 - 1) 1074
-  as-digits = sym is-root ∙ as-odd b m e f r (own_root b m e f)
+  as-digits = sym is-root ∙ as-odd b m e f r (own-root b m e f)
 
   in-quanta : quantaOf (rootOf (quantaOfBits b)) ≡ Q * U
   in-quanta = ap quantaOf as-digits ∙ quanta-odd 53 false Q (e / 2 - 1)
 
   held : F64 (rootOf (quantaOfBits b))
-  held = subst F64 is-root (of_bits-fits binary64 (made_bits b m e f r (own_root b m e f)))
+  held = subst F64 is-root (of_bits-fits binary64 (made-bits b m e f r (own-root b m e f)))
 
-  above_zero : T (positive (rootOf (quantaOfBits b)))
-  above_zero =
+  above-zero : T (positive (rootOf (quantaOfBits b)))
+  above-zero =
       subst (λ (y : Float). T (positive y)) (sym as-digits)
-      (positive_of_value (odd 53 false Q (e / 2 - 1) 1074) (Q * U) (2 ^ 1074) (odd_sign 53 false Q (e / 2 - 1) 1074) (mul-pos (omega (arith, at_least)) (pow_pos (e / 2 - 1))))
+      (positive_of_value (odd 53 false Q (e / 2 - 1) 1074) (Q * U) (2 ^ 1074) (odd_sign 53 false Q (e / 2 - 1) 1074) (mul-pos (omega (arith, at-least)) (pow_pos (e / 2 - 1))))
 
   -- the power of twice the root
   power : twiceRoot 2 (quantaOfBits b) ≡ N * (U * U)
@@ -101,17 +101,17 @@ module _ (b m e : ℕ) (f : FullWidth b m e) where
   smaller x u = elim (dec_le (Q + Q) r) [
     | yes y ↦
         let even-r : r ≡ 2 * Q = omega arith in
-        nearest 2 x (rootOf (quantaOfBits b)) Q (e / 2 - 1) (2 * (Q * U) - 1) held above_zero in-quanta (omega (arith, at_least)) (rw u larger)
+        nearest 2 x (rootOf (quantaOfBits b)) Q (e / 2 - 1) (2 * (Q * U) - 1) held above-zero in-quanta (omega (arith, at-least)) (rw u larger)
         (λ Z g l. omega arith)
         (rw u
-        (lt_of_lt_of_le (pow-lt-pow_left (less (Q * U) (mul-pos (omega (arith, at_least)) (pow_pos (e / 2 - 1)))) (λ z. omega arith))
+        (lt_of_lt_of_le (pow-lt-pow_left (less (Q * U) (mul-pos (omega (arith, at-least)) (pow_pos (e / 2 - 1)))) (λ z. omega arith))
         (le_trans (le_of_eq (ap (λ (k : ℕ). k ^ 2) (sym (mul_assoc 2 Q U) ∙ ap (λ (k : ℕ). k * U) (sym even-r)) ∙ squares r U))
         (le_trans (mul-le-mul_right (U * U) root-of-N.least) (le_of_eq (sym power))))))
     | no n ↦
         let short : r < Q + Q = lt_of_not-le n in
         let odd-r : r ≡ 2 * Q - 1 = omega arith in
-        nearest 2 x (rootOf (quantaOfBits b)) Q (e / 2 - 1) ((2 * Q - 1) * U) held above_zero in-quanta (omega (arith, at_least)) (rw u larger)
-        (λ Z g l. sum_below Q (e / 2 - 1) Z g (omega (arith, at_least)) l)
+        nearest 2 x (rootOf (quantaOfBits b)) Q (e / 2 - 1) ((2 * Q - 1) * U) held above-zero in-quanta (omega (arith, at-least)) (rw u larger)
+        (λ Z g l. sum-below Q (e / 2 - 1) Z g (omega (arith, at-least)) l)
         (rw u
         (lt_of_le_of_lt (le_of_eq (ap (λ (k : ℕ). (k * U) ^ 2) (sym odd-r) ∙ squares r U))
         (lt_of_lt_of_le (mul-lt-mul_of_pos_right (not-exact (Q - 1) (omega arith)) UU) (le_of_eq (sym power)))))
@@ -130,7 +130,7 @@ positive-square : (m : ℕ) (e : ℤ) → F64 (fin false (suc m) e) → NearestR
 positive-square m e f =
     let x = fin false (suc m) e in
     let l = bare-lt (suc m) e f in
-    let h : 0 < to_bits binary64 x = elim (eq-zero-or-pos (to_bits binary64 x)) [ inl z ↦ absurd (omega (arith, zero_bits (suc m) e f z)) | inr k ↦ k ] in
+    let h : 0 < to_bits binary64 x = elim (eq-zero-or-pos (to_bits binary64 x)) [ inl z ↦ absurd (omega (arith, zero-bits (suc m) e f z)) | inr k ↦ k ] in
     of-bits (to_bits binary64 x) h l x (quanta-of x f l)
 
 square-root : (x : Float) → F64 x → SquareRoot x (sqrtOf x)
@@ -143,28 +143,28 @@ square-root (fin true (suc m) e) f = refl
 square-root (fin false (suc m) e) f = positive-square m e f
 
 -- ---- no two values are nearest
-no_less : (p : ℕ) (x : Float) (m : ℕ) (e : ℤ) (n : ℕ) (d : ℤ) → NearestRoot p x (fin false m e) → NearestRoot p x (fin false n d) → quanta m e < quanta n d → ⊥
-no_less p x m e n d a b l =
+no-less : (p : ℕ) (x : Float) (m : ℕ) (e : ℤ) (n : ℕ) (d : ℤ) → NearestRoot p x (fin false m e) → NearestRoot p x (fin false n d) → quanta m e < quanta n d → ⊥
+no-less p x m e n d a b l =
     lt_irrefl (twiceRoot p (quantaOf x))
     (lt_trans (a.from-larger n d b.value l) (subst (λ (k : ℕ). k ^ p < twiceRoot p (quantaOf x)) (add_comm (quanta n d) (quanta m e)) (b.from-smaller m e a.value l)))
 
 one-nearest : (p : ℕ) (x : Float) (m : ℕ) (e : ℤ) (n : ℕ) (d : ℤ) → NearestRoot p x (fin false m e) → NearestRoot p x (fin false n d) → fin false m e ≡ fin false n d
 one-nearest p x m e n d a b =
-    let le : quanta m e ≤ quanta n d = le_of_not_lt (quanta n d) (quanta m e) (λ l. no_less p x n d m e b a l) in
-    let ge : quanta n d ≤ quanta m e = le_of_not_lt (quanta m e) (quanta n d) (λ l. no_less p x m e n d a b l) in
+    let le : quanta m e ≤ quanta n d = le-of-not-lt (quanta n d) (quanta m e) (λ l. no-less p x n d m e b a l) in
+    let ge : quanta n d ≤ quanta m e = le-of-not-lt (quanta m e) (quanta n d) (λ l. no-less p x m e n d a b l) in
     let same : quanta m e ≡ quanta n d = omega arith in
-    one_value (fin false m e) (fin false n d) a.value b.value (bits_are m e ∙ ap placed same ∙ sym (bits_are n d))
+    one-value (fin false m e) (fin false n d) a.value b.value (bits-are m e ∙ ap placed same ∙ sym (bits-are n d))
   where
-    le_of_not_lt : (a b : ℕ) → (a < b → ⊥) → b ≤ a
-    le_of_not_lt a b h = let k : b < suc a = lt_of_not-le h in omega arith
+    le-of-not-lt : (a b : ℕ) → (a < b → ⊥) → b ≤ a
+    le-of-not-lt a b h = let k : b < suc a = lt_of_not-le h in omega arith
 
 only-nearest : (p : ℕ) (x r s : Float) → NearestRoot p x r → NearestRoot p x s → r ≡ s
-only-nearest p x nan s a b = absurd a.above_zero
-only-nearest p x (inf t) s a b = absurd a.above_zero
-only-nearest p x (fin true m e) s a b = absurd a.above_zero
-only-nearest p x (fin false m e) nan a b = absurd b.above_zero
-only-nearest p x (fin false m e) (inf t) a b = absurd b.above_zero
-only-nearest p x (fin false m e) (fin true n d) a b = absurd b.above_zero
+only-nearest p x nan s a b = absurd a.above-zero
+only-nearest p x (inf t) s a b = absurd a.above-zero
+only-nearest p x (fin true m e) s a b = absurd a.above-zero
+only-nearest p x (fin false m e) nan a b = absurd b.above-zero
+only-nearest p x (fin false m e) (inf t) a b = absurd b.above-zero
+only-nearest p x (fin false m e) (fin true n d) a b = absurd b.above-zero
 only-nearest p x (fin false m e) (fin false n d) a b = one-nearest p x m e n d a b
 
 only-square : (x r : Float) → F64 x → SquareRoot x r → r ≡ sqrtOf x
@@ -184,7 +184,7 @@ factor-held = tt
 cube-root : CubeRoot differenceFactor
 cube-root =
     nearest 3 (fin false 1 (negsuc 51)) differenceFactor 7149018786131517 1004 ((2 * 7149018786131517 - 1) * 2 ^ 1004) factor-held tt refl (lit≤ tt) (lit< tt)
-    (λ Z g l. sum_below 7149018786131517 1004 Z g (lit< tt) l)
+    (λ Z g l. sum-below 7149018786131517 1004 Z g (lit< tt) l)
     (lit< tt)
 
 pub roots : RootsAreNearest

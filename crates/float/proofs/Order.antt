@@ -9,7 +9,7 @@ use lib.Ieee.{Float, nan, inf, fin, up, down, lt, le, neg, is_nan}
 use lib.Ieee.Fits.{down_pos}
 use Rattle.float.specs.Binary64.{Number, NotAbove}
 use Rattle.float.specs.Laws.{OrderLaws}
-use Rattle.float.proofs.Tests.{or_l}
+use Rattle.float.proofs.Tests.{or-l}
 use Rattle.float.proofs.Signed.{Le, le→Le, Le→le, Le-trans, Le-neg, not-below, below-not}
 
 -- two finite values, by their fractions
@@ -46,27 +46,27 @@ fins : (s : Bool) (m : ℕ) (e : ℤ) (t : Bool) (n : ℕ) (d : ℤ) (u : Bool) 
 fins s m e t n d u k j p q =
     fin-le s m e u k j (Le-trans s (m * up e) t (n * up d) u (k * up j) (down e) (down d) (down j) (down_pos e) (down_pos d) (down_pos j) (le-fin s m e t n d p) (le-fin t n d u k j q))
 
-pub le_trans : (x y z : Float) → T (le x y) → T (le y z) → T (le x z)
+pub le-trans : (x y z : Float) → T (le x y) → T (le y z) → T (le x z)
 unfolding le
-le_trans nan y z p q = absurd p
-le_trans (inf true) y nan p q = absurd (no-le-nan y q)
-le_trans (inf true) y (inf true) p q = tt
-le_trans (inf true) y (inf false) p q = tt
-le_trans (inf true) y (fin u k j) p q = tt
-le_trans (inf false) nan z p q = absurd p
-le_trans (inf false) (inf true) z p q = absurd p
-le_trans (inf false) (inf false) z p q = q
-le_trans (inf false) (fin t n d) z p q = absurd p
-le_trans (fin s m e) nan z p q = absurd p
-le_trans (fin s m e) (inf true) z p q = absurd p
-le_trans (fin s m e) (inf false) nan p q = absurd q
-le_trans (fin s m e) (inf false) (inf true) p q = absurd q
-le_trans (fin s m e) (inf false) (inf false) p q = tt
-le_trans (fin s m e) (inf false) (fin u k j) p q = absurd q
-le_trans (fin s m e) (fin t n d) nan p q = absurd q
-le_trans (fin s m e) (fin t n d) (inf true) p q = absurd q
-le_trans (fin s m e) (fin t n d) (inf false) p q = tt
-le_trans (fin s m e) (fin t n d) (fin u k j) p q = fins s m e t n d u k j p q
+le-trans nan y z p q = absurd p
+le-trans (inf true) y nan p q = absurd (no-le-nan y q)
+le-trans (inf true) y (inf true) p q = tt
+le-trans (inf true) y (inf false) p q = tt
+le-trans (inf true) y (fin u k j) p q = tt
+le-trans (inf false) nan z p q = absurd p
+le-trans (inf false) (inf true) z p q = absurd p
+le-trans (inf false) (inf false) z p q = q
+le-trans (inf false) (fin t n d) z p q = absurd p
+le-trans (fin s m e) nan z p q = absurd p
+le-trans (fin s m e) (inf true) z p q = absurd p
+le-trans (fin s m e) (inf false) nan p q = absurd q
+le-trans (fin s m e) (inf false) (inf true) p q = absurd q
+le-trans (fin s m e) (inf false) (inf false) p q = tt
+le-trans (fin s m e) (inf false) (fin u k j) p q = absurd q
+le-trans (fin s m e) (fin t n d) nan p q = absurd q
+le-trans (fin s m e) (fin t n d) (inf true) p q = absurd q
+le-trans (fin s m e) (fin t n d) (inf false) p q = tt
+le-trans (fin s m e) (fin t n d) (fin u k j) p q = fins s m e t n d u k j p q
 
 -- of two that are no NaN, one is at most the other; and not both of x < y and y ≤ x
 pub not-lt→le : (x y : Float) → Number x → Number y → T (not (lt x y)) → T (le y x)
@@ -84,25 +84,25 @@ not-lt→le (fin s m e) (inf true) a b h = tt
 not-lt→le (fin s m e) (inf false) a b h = absurd h
 not-lt→le (fin s m e) (fin t n d) a b h = fin-le t n d s m e (not-below s (m * up e * down d) t (n * up d * down e) h)
 
-pub lt_not_le : (x y : Float) → T (lt x y) → T (le y x) → ⊥
+pub lt-not-le : (x y : Float) → T (lt x y) → T (le y x) → ⊥
 unfolding lt le
-lt_not_le nan y h k = h
-lt_not_le (inf s) nan h k = h
-lt_not_le (inf true) (inf true) h k = h
-lt_not_le (inf true) (inf false) h k = k
-lt_not_le (inf false) (inf true) h k = h
-lt_not_le (inf false) (inf false) h k = h
-lt_not_le (inf true) (fin t n d) h k = k
-lt_not_le (inf false) (fin t n d) h k = h
-lt_not_le (fin s m e) nan h k = h
-lt_not_le (fin s m e) (inf true) h k = h
-lt_not_le (fin s m e) (inf false) h k = k
-lt_not_le (fin s m e) (fin t n d) h k = below-not s (m * up e * down d) t (n * up d * down e) h (le-fin t n d s m e k)
+lt-not-le nan y h k = h
+lt-not-le (inf s) nan h k = h
+lt-not-le (inf true) (inf true) h k = h
+lt-not-le (inf true) (inf false) h k = k
+lt-not-le (inf false) (inf true) h k = h
+lt-not-le (inf false) (inf false) h k = h
+lt-not-le (inf true) (fin t n d) h k = k
+lt-not-le (inf false) (fin t n d) h k = h
+lt-not-le (fin s m e) nan h k = h
+lt-not-le (fin s m e) (inf true) h k = h
+lt-not-le (fin s m e) (inf false) h k = k
+lt-not-le (fin s m e) (fin t n d) h k = below-not s (m * up e * down d) t (n * up d * down e) h (le-fin t n d s m e k)
 
 -- ---- what follows, with no cases on the two values
 pub lt→le : (x y : Float) → T (lt x y) → T (le x y)
 unfolding le
-lt→le x y h = or_l (lt x y) _ h
+lt→le x y h = or-l (lt x y) _ h
 
 pub lt-number-l : (x y : Float) → T (lt x y) → Number x
 unfolding lt is_nan
@@ -125,8 +125,8 @@ le-number-l (fin s m e) y h = tt
 pub lt-number-r : (x y : Float) → T (lt x y) → Number y
 lt-number-r x y h = le-number-r x y (lt→le x y h)
 
-pub lt_irrefl : (x : Float) → T (lt x x) → ⊥
-lt_irrefl x h = lt_not_le x x h (lt→le x x h)
+pub lt-irrefl : (x : Float) → T (lt x x) → ⊥
+lt-irrefl x h = lt-not-le x x h (lt→le x x h)
 
 -- a test and both its outcomes
 pub by-test : (b : Bool) {P : Type 0} → (T b → P) → (T (not b) → P) → P
@@ -134,15 +134,15 @@ by-test true f g = f tt
 by-test false f g = g tt
 
 pub lt-le-trans : (x y z : Float) → T (lt x y) → T (le y z) → T (lt x z)
-lt-le-trans x y z h k = by-test (lt x z) (λ t. t) (λ n. absurd (lt_not_le x y h (le_trans y z x k (not-lt→le x z (lt-number-l x y h) (le-number-r y z k) n))))
+lt-le-trans x y z h k = by-test (lt x z) (λ t. t) (λ n. absurd (lt-not-le x y h (le-trans y z x k (not-lt→le x z (lt-number-l x y h) (le-number-r y z k) n))))
 
-pub le_lt_trans : (x y z : Float) → T (le x y) → T (lt y z) → T (lt x z)
-le_lt_trans x y z h k =
+pub le-lt-trans : (x y z : Float) → T (le x y) → T (lt y z) → T (lt x z)
+le-lt-trans x y z h k =
     by-test (lt x z) (λ t. t)
-    (λ n. absurd (lt_not_le y z k (le_trans z x y (not-lt→le x z (le-number-l x y h) (lt-number-r y z k) n) h)))
+    (λ n. absurd (lt-not-le y z k (le-trans z x y (not-lt→le x z (le-number-l x y h) (lt-number-r y z k) n) h)))
 
-pub lt_trans : (x y z : Float) → T (lt x y) → T (lt y z) → T (lt x z)
-lt_trans x y z h k = lt-le-trans x y z h (lt→le y z k)
+pub lt-trans : (x y z : Float) → T (lt x y) → T (lt y z) → T (lt x z)
+lt-trans x y z h k = lt-le-trans x y z h (lt→le y z k)
 
 pub total : (x y : Float) → Number x → Number y → T (lt x y) ⊎ T (le y x)
 total x y a b = by-test (lt x y) (λ t. inl t) (λ n. inr (not-lt→le x y a b n))
@@ -153,20 +153,20 @@ not-above-trans x y z n h k =
     (λ t.
     let below : T (le x y) = not-lt→le y x n (lt-number-r z x t) h in
     let above : T (le y z) = not-lt→le z y (lt-number-l z x t) n k in
-    lt_not_le z x t (le_trans x y z below above))
+    lt-not-le z x t (le-trans x y z below above))
 
 pub le→not-above : (x y : Float) → T (le x y) → NotAbove x y
-le→not-above x y h = not_T (lt y x) (λ t. lt_not_le y x t h)
+le→not-above x y h = not_T (lt y x) (λ t. lt-not-le y x t h)
 
 pub order-laws : OrderLaws
 order-laws =
     record {
-      le_trans = le_trans;
-      lt_trans = lt_trans;
+      le-trans = le-trans;
+      lt-trans = lt-trans;
       lt-le-trans = lt-le-trans;
-      le_lt_trans = le_lt_trans;
-      lt-irreflexive = lt_irrefl;
-      lt-excludes = lt_not_le;
+      le-lt-trans = le-lt-trans;
+      lt-irreflexive = lt-irrefl;
+      lt-excludes = lt-not-le;
       total = total;
       not-above-trans = not-above-trans;
     }

@@ -18,8 +18,8 @@ use Rattle.float.specs.Binary64.{F64, Number, negative, bits}
 use Rattle.float.specs.Values.{absOf}
 use Rattle.float.specs.Roots.{quanta, quantaOf}
 use Rattle.float.specs.Sqrt.{sqrtOf, rootOf, quantaOfBits}
-use Rattle.float.proofs.Bits.{fits-bare, bare-lt, inf_bits, zero_bits, parted, magnitude, abs-most, sign_bit}
-use Rattle.float.proofs.Ranks.{no_bits}
+use Rattle.float.proofs.Bits.{fits-bare, bare-lt, inf-bits, zero-bits, parted, magnitude, abs-most, sign-bit}
+use Rattle.float.proofs.Ranks.{no-bits}
 
 -- ---- a finite value in quanta, from its bits
 quanta-is : (m : ℕ) (e : ℤ) (a : ℕ) → m * up e * 2 ^ 1074 ≡ a * down e → quanta m e ≡ a
@@ -41,15 +41,15 @@ normal-bits x t h l =
     let q : b % hid binary64 ≡ t = omega arith in
     rw (lt-leb (top binary64) b (omega arith), p, q) (rw (ne_eqb (suc x) 2047 (λ e. omega arith)))
 
-low_bits : (b : ℕ) → b < 2 ^ 52 → bits b ≡ odd 53 false b 0 1074
+low-bits : (b : ℕ) → b < 2 ^ 52 → bits b ≡ odd 53 false b 0 1074
 unfolding of_bits of_fields
-low_bits b l =
+low-bits b l =
     let p : b % top binary64 / hid binary64 ≡ 0 = omega arith in
     let q : b % hid binary64 ≡ b = omega arith in
     rw (lt-leb (top binary64) b (omega arith), p, q)
 
 quanta-low : (b : ℕ) → b < 2 ^ 52 → quantaOf (bits b) ≡ quantaOfBits b
-quanta-low b l = rw (low_bits b l, quanta-odd, lt-ltb b (2 ^ 52) l) (mul-one b)
+quanta-low b l = rw (low-bits b l, quanta-odd, lt-ltb b (2 ^ 52) l) (mul-one b)
 
 quanta-high : (b : ℕ) → 2 ^ 52 ≤ b → b < 0x7ff0_0000_0000_0000 → quantaOf (bits b) ≡ quantaOfBits b
 quanta-high b h l =
@@ -71,10 +71,10 @@ quanta-of x f l = ap quantaOf (sym (of_bits-to_bits binary64 x f)) ∙ quanta-bi
 above : (x : Float) → Number x → 0 < to_bits binary64 x → to_bits binary64 x < 0x7ff0_0000_0000_0000 → rootOf (quantaOf x) ≡ sqrtOf x
 unfolding is_nan sqrtOf absOf
 above nan h k l = absurd h
-above (inf true) h k l = absurd (omega (arith, inf_bits true))
-above (inf false) h k l = absurd (omega (arith, inf_bits false))
+above (inf true) h k l = absurd (omega (arith, inf-bits true))
+above (inf false) h k l = absurd (omega (arith, inf-bits false))
 above (fin true m e) h k l = absurd (omega (arith, parted (fin true m e) tt))
-above (fin false zero e) h k l = absurd (omega (arith, no_bits e))
+above (fin false zero e) h k l = absurd (omega (arith, no-bits e))
 above (fin false (suc m) e) h k l = refl
 
 pub above-is : (x : Float) → F64 x → Number x → 0 < to_bits binary64 x → to_bits binary64 x < 0x7ff0_0000_0000_0000 → rootOf (quantaOfBits (to_bits binary64 x)) ≡ sqrtOf x
@@ -84,16 +84,16 @@ above-is x f h k l = ap rootOf (sym (quanta-of x f l)) ∙ above x h k l
 zero-root : (x : Float) → F64 x → Number x → to_bits binary64 (absOf x) ≡ 0 → x ≡ sqrtOf x
 unfolding is_nan absOf sqrtOf
 zero-root nan f h z = absurd h
-zero-root (inf s) f h z = absurd (omega (arith, inf_bits false, z))
+zero-root (inf s) f h z = absurd (omega (arith, inf-bits false, z))
 zero-root (fin s zero e) f h z = refl
-zero-root (fin s (suc m) e) f h z = absurd (omega (arith, zero_bits (suc m) e (fits-bare s false (suc m) e f) z))
+zero-root (fin s (suc m) e) f h z = absurd (omega (arith, zero-bits (suc m) e (fits-bare s false (suc m) e f) z))
 
 minus-root : (x : Float) → Number x → (to_bits binary64 (absOf x) ≡ 0 → ⊥) → ◌≡◌ {A = ℕ} (cond (negative x) 1 0) 1 → nan ≡ sqrtOf x
 unfolding is_nan absOf sqrtOf
 minus-root nan h n z = absurd h
 minus-root (inf true) h n z = refl
 minus-root (inf false) h n z = absurd (omega arith)
-minus-root (fin true zero e) h n z = absurd (n (no_bits e))
+minus-root (fin true zero e) h n z = absurd (n (no-bits e))
 minus-root (fin true (suc m) e) h n z = refl
 minus-root (fin false m e) h n z = absurd (omega arith)
 
@@ -113,24 +113,24 @@ module _ (x : Float) (f : F64 x) (h : Number x) where
 
   module _ (some : bit_and b 0x7fff_ffff_ffff_ffff ≡ 0 → ⊥) where
     pub root-below-zero : b / 2 ^ 63 ≡ 1 → nan ≡ sqrtOf x
-    root-below-zero z = minus-root x h (λ e. some (magnitude x f h ∙ e)) (sym (sign_bit x f h) ∙ z)
+    root-below-zero z = minus-root x h (λ e. some (magnitude x f h ∙ e)) (sym (sign-bit x f h) ∙ z)
 
     module _ (plus : b / 2 ^ 63 ≡ 1 → ⊥) where
-      not_negative : negative x ≡ false
-      not_negative = go (negative x) (sign_bit x f h)
+      not-negative : negative x ≡ false
+      not-negative = go (negative x) (sign-bit x f h)
         where
           go : (s : Bool) → b / 2 ^ 63 ≡ cond s 1 0 → s ≡ false
           go true z = absurd (plus z)
           go false z = refl
 
       bare : b ≡ to_bits binary64 (absOf x)
-      bare = parted x h ∙ ap (λ (s : Bool). cond s (2 ^ 63) 0 + to_bits binary64 (absOf x)) not_negative ∙ zero-add (to_bits binary64 (absOf x))
+      bare = parted x h ∙ ap (λ (s : Bool). cond s (2 ^ 63) 0 + to_bits binary64 (absOf x)) not-negative ∙ zero-add (to_bits binary64 (absOf x))
 
-      pub at_least : 0 < b
-      at_least = elim (eq-zero-or-pos b) [ inl z ↦ absurd (some (magnitude x f h ∙ sym bare ∙ z)) | inr l ↦ l ]
+      pub at-least : 0 < b
+      at-least = elim (eq-zero-or-pos b) [ inl z ↦ absurd (some (magnitude x f h ∙ sym bare ∙ z)) | inr l ↦ l ]
 
       pub root-of-infinity : b / 2 ^ 52 ≡ 0x7ff → x ≡ sqrtOf x
-      root-of-infinity z = inf-root x f h not_negative (ap (λ (n : ℕ). n / 2 ^ 52) (sym bare) ∙ z)
+      root-of-infinity z = inf-root x f h not-negative (ap (λ (n : ℕ). n / 2 ^ 52) (sym bare) ∙ z)
 
-      pub at_most : (b / 2 ^ 52 ≡ 0x7ff → ⊥) → b < 0x7ff0_0000_0000_0000
-      at_most n = lt_of_not-le (λ (g : 0x7ff0_0000_0000_0000 ≤ b). n (omega (arith, abs-most x f h, bare)))
+      pub at-most : (b / 2 ^ 52 ≡ 0x7ff → ⊥) → b < 0x7ff0_0000_0000_0000
+      at-most n = lt_of_not-le (λ (g : 0x7ff0_0000_0000_0000 ≤ b). n (omega (arith, abs-most x f h, bare)))

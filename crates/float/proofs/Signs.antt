@@ -15,7 +15,7 @@ use Rattle.float.specs.Binary64.{F64, Number, NotAbove, negative, plusZero, minu
 use Rattle.float.specs.Values.{Finite, finiteOf}
 use Rattle.float.specs.Laws.{SignLaws, ArmijoNeverRises}
 use Rattle.float.proofs.Signed.{no-factor, no-product}
-use Rattle.float.proofs.Order.{no-lt-nan, by-test, le_trans, le-neg, not-lt→le, le→not-above, le-number-r}
+use Rattle.float.proofs.Order.{no-lt-nan, by-test, le-trans, le-neg, not-lt→le, le→not-above, le-number-r}
 use Rattle.float.proofs.Sums.{own-le, minus-le, added-le, round-neg, round-negative}
 
 -- y is not above zero where u is true, and not below it where u is false; a NaN is neither above nor below
@@ -41,16 +41,16 @@ side-inf true false h = absurd h
 side-inf false true h = absurd h
 side-inf false false h = refl
 
-no_size : (n : ℕ) (d : ℤ) (k : ℕ) → n * up d * 1 ≤ k → k ≡ 0 → n ≡ 0
-no_size n d k h z = no-factor n (up d) (up_pos d) (omega (arith, mul-one (n * up d)))
+no-size : (n : ℕ) (d : ℤ) (k : ℕ) → n * up d * 1 ≤ k → k ≡ 0 → n ≡ 0
+no-size n d k h z = no-factor n (up d) (up_pos d) (omega (arith, mul-one (n * up d)))
 
 side-fin : (u t : Bool) (n : ℕ) (d : ℤ) → Side u (fin t n d) → (t ≡ u) ⊎ (n ≡ 0)
 unfolding lt
 side-fin true true n d h = inl refl
-side-fin true false n d h = inr (no_size n d (0 * 1 * down d) (nltb→le (0 * 1 * down d) (n * up d * 1) h) (zero-mul (down d)))
+side-fin true false n d h = inr (no-size n d (0 * 1 * down d) (nltb→le (0 * 1 * down d) (n * up d * 1) h) (zero-mul (down d)))
 side-fin false true n d h =
     let k : n * up d * 1 + 0 * 1 * down d ≤ 0 = nltb→le 0 (n * up d * 1 + 0 * 1 * down d) h in
-    inr (no_size n d 0 (omega arith) refl)
+    inr (no-size n d 0 (omega arith) refl)
 side-fin false false n d h = inl refl
 
 -- a rounding keeps its sign, and nothing rounds to nothing
@@ -70,7 +70,7 @@ zero-round (suc c) =
 
 minus-round : (c : ℕ) → T (le plusZero (round binary64 true 0 c))
 minus-round c =
-    le_trans plusZero minusZero (round binary64 true 0 c) (unfold le in tt)
+    le-trans plusZero minusZero (round binary64 true 0 c) (unfold le in tt)
     (subst (λ (x : Float). T (le minusZero x)) (sym (round-neg binary64 0 c)) (unfold neg in le-neg (round binary64 false 0 c) plusZero (zero-round c)))
 
 round-side : (u t : Bool) (a c : ℕ) → (t ≡ u) ⊎ (a ≡ 0) → Side u (round binary64 t a c)
@@ -135,11 +135,11 @@ is-nan nan h = refl
 is-nan (inf s) h = absurd h
 is-nan (fin s m e) h = absurd h
 
-pub finite_number : (x : Float) → Finite x → Number x
+pub finite-number : (x : Float) → Finite x → Number x
 unfolding finiteOf is_nan
-finite_number nan h = absurd h
-finite_number (inf s) h = tt
-finite_number (fin s m e) h = tt
+finite-number nan h = absurd h
+finite-number (inf s) h = tt
+finite-number (fin s m e) h = tt
 
 finite-is : (x : Float) → Finite x → T (finite x)
 unfolding finiteOf
@@ -164,4 +164,4 @@ pub armijo : ArmijoNeverRises
 armijo f f0 c1 a slope i h p q s t =
     let most = f0 ⊕ c1 ⊗ a ⊗ slope in
     let under : NotAbove most f0 = sum-not-above f0 (c1 ⊗ a ⊗ slope) i h (product true (c1 ⊗ a) slope (product false c1 a p q) s) in
-    le_trans f most f0 t (not-lt→le f0 most (finite_number f0 i) (le-number-r f most t) under)
+    le-trans f most f0 t (not-lt→le f0 most (finite-number f0 i) (le-number-r f most t) under)

@@ -13,8 +13,8 @@ use lib.Ieee.Order.{le_of_values, round_mono}
 use lib.Ieee.Scale.{finite}
 use borrow.Author.Tests.{le-ltb}
 use Rattle.float.specs.Binary64.{negative, plusZero}
-use Rattle.float.proofs.Signed.{no-factor, no-product, no_more}
-use Rattle.float.proofs.Order.{le_trans, le-neg, fin-le, le-fin, no-nan-le}
+use Rattle.float.proofs.Signed.{no-factor, no-product, no-more}
+use Rattle.float.proofs.Order.{le-trans, le-neg, fin-le, le-fin, no-nan-le}
 use Rattle.float.proofs.Grid.{place}
 
 -- ---- a rounding with a minus is the rounding without it, turned round, and keeps its sign
@@ -112,7 +112,7 @@ both-minus f m e K B P h =
     let c : 0 < C = mul-pos (down_pos e) P in
     subst (λ (x : Float). T (le x (fin true m e))) (sym (round-neg f (A + B) C))
     (le-neg (fin false m e) (round f false (A + B) C)
-    (le_trans (fin false m e) (round f false A C) (round f false (A + B) C) (own-ge f true m e K P h) (round_mono f A C (A + B) C c c (mul-le-mul_right C (le-add_right A B)))))
+    (le-trans (fin false m e) (round f false A C) (round f false (A + B) C) (own-ge f true m e K P h) (round_mono f A C (A + B) C c c (mul-le-mul_right C (le-add_right A B)))))
 
 -- |x| - |y| ≤ |x|
 plus-minus : (f : Format) (m : ℕ) (e : ℤ) (K B : ℕ) → 0 < K → T (fits f (fin false m e)) → T (le (round f false (m * up e * K - B) (down e * K)) (fin false m e))
@@ -120,13 +120,13 @@ plus-minus f m e K B P h =
     let A = m * up e * K in
     let C = down e * K in
     let c : 0 < C = mul-pos (down_pos e) P in
-    le_trans (round f false (A - B) C) (round f false A C) (fin false m e) (round_mono f (A - B) C A C c c (mul-le-mul_right C (sub-le A B))) (own-le f false m e K P h)
+    le-trans (round f false (A - B) C) (round f false A C) (fin false m e) (round_mono f (A - B) C A C c c (mul-le-mul_right C (sub-le A B))) (own-le f false m e K P h)
 
 -- -0 + 0 is +0, which is not above -0
 zeros : (f : Format) (m : ℕ) (e : ℤ) (K : ℕ) → 0 < K → T (fits f (fin true m e)) → m * up e * K ≡ 0 → T (le (round f false (m * up e * K) (down e * K)) (fin true m e))
 zeros f m e K P h z =
     let a : m * up e * down e ≡ 0 = no-product (m * up e) (down e) (no-factor (m * up e) K P z) in
-    le_trans (round f false (m * up e * K) (down e * K)) (fin false m e) (fin true m e) (own-le f true m e K P h) (fin-le false m e true m e (a, a))
+    le-trans (round f false (m * up e * K) (down e * K)) (fin false m e) (fin true m e) (own-le f true m e K P h) (fin-le false m e true m e (a, a))
 
 sum-le : (f : Format) (s : Bool) (m : ℕ) (e : ℤ) (t : Bool) (K B : ℕ) → 0 < K → T (fits f (fin s m e)) → (T (not t) → B ≡ 0) → T (le (sum f s (m * up e * K) t B (down e * K)) (fin s m e))
 unfolding sum
@@ -143,7 +143,7 @@ sum-le f true m e false K B P h z =
   where
     go : (b : Bool) → (T (not b) → m * up e * K ≤ 0) → T (le (round f b (m * up e * K) (down e * K)) (fin true m e))
     go true k = rw add-zero at (both-minus f m e K 0 P h)
-    go false k = zeros f m e K P h (no_more (m * up e * K) (k tt))
+    go false k = zeros f m e K P h (no-more (m * up e * K) (k tt))
 
 no-inf-le-zero : T (le (inf false) plusZero) → ⊥
 no-inf-le-zero t = unfold le in t
@@ -158,4 +158,4 @@ added-le f (fin s m e) (inf false) i h k = absurd (no-inf-le-zero k)
 added-le f (fin s m e) (fin true n d) i h k = sum-le f s m e true (down d) (n * up d * down e) (down_pos d) h (λ t. absurd t)
 added-le f (fin s m e) (fin false n d) i h k =
     sum-le f s m e false (down d) (n * up d * down e) (down_pos d) h
-    (λ t. no-product (n * up d) (down e) (no_more (n * up d) (subst₂ (λ (a b : ℕ). a ≤ b) (mul-one (n * up d)) (zero-mul (down d)) (le-fin false n d false 0 (pos 0) k))))
+    (λ t. no-product (n * up d) (down e) (no-more (n * up d) (subst₂ (λ (a b : ℕ). a ≤ b) (mul-one (n * up d)) (zero-mul (down d)) (le-fin false n d false 0 (pos 0) k))))

@@ -9,17 +9,17 @@ by true f g = f refl
 by false f g = g refl
 
 -- and of what it chooses
-pub by_cond : {A : Type 0} (P : A → Type 0) (b : Bool) (m n : A) → (b ≡ true → P m) → (b ≡ false → P n) → P (cond b m n)
-by_cond P true m n h k = h refl
-by_cond P false m n h k = k refl
+pub by-cond : {A : Type 0} (P : A → Type 0) (b : Bool) (m n : A) → (b ≡ true → P m) → (b ≡ false → P n) → P (cond b m n)
+by-cond P true m n h k = h refl
+by-cond P false m n h k = k refl
 
 pub false-T : (b : Bool) → b ≡ false → T (not b)
 false-T true e = absurd (true≢false e)
 false-T false e = tt
 
-pub or_l : (a b : Bool) → T a → T (a || b)
-or_l true b t = tt
-or_l false b t = absurd t
+pub or-l : (a b : Bool) → T a → T (a || b)
+or-l true b t = tt
+or-l false b t = absurd t
 
 -- the code's `if a { return b; } false`
 pub cond-and : (a b : Bool) → cond a b false ≡ (a && b)

@@ -10,8 +10,8 @@ use lib.Pow.{pow_pos, pow_mono, pow-add}
 use borrow.Author.Tests.{lt-ltb, le-ltb}
 use Rattle.float.specs.Sqrt.{FullWidth, quantaOfBits}
 
-pub pow_lt_back : (a b : ℕ) → 2 ^ a < 2 ^ b → a < b
-pow_lt_back a b h = lt_of_not-le (λ g. not-le_of_lt h (pow_mono g))
+pub pow-lt-back : (a b : ℕ) → 2 ^ a < 2 ^ b → a < b
+pow-lt-back a b h = lt_of_not-le (λ g. not-le_of_lt h (pow_mono g))
 
 -- 2 ^ a times what makes it 2 ^ c
 pub made : (a b c : ℕ) → a + b ≡ c → 2 ^ a * 2 ^ b ≡ 2 ^ c
@@ -28,7 +28,7 @@ pub record Top (b : ℕ) : Type 0 where
 top : (b : ℕ) → 0 < b → b < 2 ^ 52 → Top b
 top b h l =
     let t = leading_top 64 b h (lt_of_lt_of_le l (pow_mono {i = 52} {j = 64} (omega arith))) in
-    record { j = t.0; zeros = t.1; below = pow_lt_back t.0 52 (lt_of_le_of_lt t.2 l); least = t.2; most = t.3 }
+    record { j = t.0; zeros = t.1; below = pow-lt-back t.0 52 (lt_of_le_of_lt t.2 l); least = t.2; most = t.3 }
 
 low-at : (b z : ℕ) (t : Top b) → z + t.j ≡ 52 → b < 2 ^ 52 → FullWidth b (b * 2 ^ z % 2 ^ 64) (1024 - z)
 low-at b z t e l =
@@ -74,7 +74,7 @@ high-quanta b m e h p q =
 
 pub full-high : (b : ℕ) → (b / 2 ^ 52 ≡ 0 → ⊥) → b < 0x7ff0_0000_0000_0000 → FullWidth b (2 ^ 52 + bit_and b 0x000f_ffff_ffff_ffff) (b / 2 ^ 52 + 1023)
 full-high b n l =
-    let h : 2 ^ 52 ≤ b = le_of_not_lt (λ g. n (omega arith)) in
+    let h : 2 ^ 52 ≤ b = le-of-not-lt (λ g. n (omega arith)) in
     let e = fraction b in
     record {
       least = omega arith;
@@ -84,8 +84,8 @@ full-high b n l =
       same = high-quanta b (2 ^ 52 + bit_and b 0x000f_ffff_ffff_ffff) (b / 2 ^ 52 + 1023) h (ap (λ (x : ℕ). 2 ^ 52 + x) e) refl;
     }
   where
-    le_of_not_lt : (b < 2 ^ 52 → ⊥) → 2 ^ 52 ≤ b
-    le_of_not_lt g = le-of-suc (lt_of_not-le g)
+    le-of-not-lt : (b < 2 ^ 52 → ⊥) → 2 ^ 52 ≤ b
+    le-of-not-lt g = le-of-suc (lt_of_not-le g)
       where
         le-of-suc : 2 ^ 52 < suc b → 2 ^ 52 ≤ b
         le-of-suc k = omega arith

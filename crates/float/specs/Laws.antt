@@ -3,16 +3,16 @@ use Rattle.std.specs.Prelude.{ℕ, ◌*◌, ◌^◌, ◌≡◌, Bool, ◌⊎◌,
 use Rattle.std.specs.Float.{fin}
 use Rattle.std.specs.Float.Ieee.{up, down, lt, le, neg}
 use Rattle.float.specs.Binary64.{F64, Number, NotAbove, ◌⊕◌, ◌⊖◌, ◌⊗◌, ◌⊘◌, plusZero}
-use Rattle.float.specs.Values.{Finite, absOf, signumOf, max_of, minOf}
+use Rattle.float.specs.Values.{Finite, absOf, signumOf, maxOf, minOf}
 use Rattle.float.specs.Roots.{quanta, SquareRoot, CubeRoot, differenceFactor}
 use Rattle.float.specs.Sqrt.{sqrtOf}
 
 -- `<` and `<=` on all values, NaN among them
 pub record OrderLaws : Type 0 where
-  pub le_trans : (x y z : Float) → T (le x y) → T (le y z) → T (le x z)
-  pub lt_trans : (x y z : Float) → T (lt x y) → T (lt y z) → T (lt x z)
+  pub le-trans : (x y z : Float) → T (le x y) → T (le y z) → T (le x z)
+  pub lt-trans : (x y z : Float) → T (lt x y) → T (lt y z) → T (lt x z)
   pub lt-le-trans : (x y z : Float) → T (lt x y) → T (le y z) → T (lt x z)
-  pub le_lt_trans : (x y z : Float) → T (le x y) → T (lt y z) → T (lt x z)
+  pub le-lt-trans : (x y z : Float) → T (le x y) → T (lt y z) → T (lt x z)
   pub lt-irreflexive : (x : Float) → T (lt x x) → ⊥
   pub lt-excludes : (x y : Float) → T (lt x y) → T (le y x) → ⊥
   pub total : (x y : Float) → Number x → Number y → T (lt x y) ⊎ T (le y x)
@@ -50,7 +50,7 @@ pub record Closed : Type 0 where
   pub negation : (x : Float) → F64 x → F64 (neg x)
   pub abs : (x : Float) → F64 x → F64 (absOf x)
   pub signum : (x : Float) → F64 (signumOf x)
-  pub max : (x y : Float) → F64 x → F64 y → F64 (max_of x y)
+  pub max : (x y : Float) → F64 x → F64 y → F64 (maxOf x y)
   pub min : (x y : Float) → F64 x → F64 y → F64 (minOf x y)
   pub sqrt : (x : Float) → F64 x → F64 (sqrtOf x)
   pub difference-factor : F64 differenceFactor

@@ -27,7 +27,7 @@ twiceRoot p X = 2 ^ p * (X * 2 ^ (1074 * (p - 1)))
 -- near as r, and no tie is left to be broken. A value below zero is farther from Y than +0 is.
 pub record NearestRoot (p : ℕ) (x r : Float) : Type 0 where
   pub value : F64 r
-  pub above_zero : T (positive r)
+  pub above-zero : T (positive r)
   pub from-larger : (m : ℕ) (e : ℤ) → F64 (fin false m e) → quantaOf r < quanta m e → twiceRoot p (quantaOf x) < (quantaOf r + quanta m e) ^ p
   pub from-smaller : (m : ℕ) (e : ℤ) → F64 (fin false m e) → quanta m e < quantaOf r → (quantaOf r + quanta m e) ^ p < twiceRoot p (quantaOf x)
 

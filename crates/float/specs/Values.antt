@@ -36,8 +36,8 @@ signumOf (inf s) = fin s 1 (pos 0)
 signumOf (fin s m e) = fin s 1 (pos 0)
 
 -- `f64::max`. 01: "`max` and `min` pass over a NaN operand"; of two equal operands, as -0.0 and +0.0 are, it is the first.
-unfoldable pub max_of : Float → Float → Float
-max_of a b = cond (is_nan a) b (cond (lt a b) b a)
+unfoldable pub maxOf : Float → Float → Float
+maxOf a b = cond (is_nan a) b (cond (lt a b) b a)
 
 -- `f64::min`, likewise
 unfoldable pub minOf : Float → Float → Float

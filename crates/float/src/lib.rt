@@ -2,8 +2,8 @@
 // taken apart by shifts and masks. A NaN's bits are free and are never read, so it goes first.
 ghost use Rattle.std.specs.Prelude.{◌≡◌, ◌*◌, ◌^◌, ◌≤◌, ◌<◌};
 ghost use Rattle.std.specs.Float.Ieee.{lt};
-ghost use Rattle.float.specs.Values.{absOf, finiteOf, signumOf, max_of, minOf, toleranceOf, positiveOf};
-ghost use Rattle.float.specs.Order.{rank_of, key_of, precedesOf};
+ghost use Rattle.float.specs.Values.{absOf, finiteOf, signumOf, maxOf, minOf, toleranceOf, positiveOf};
+ghost use Rattle.float.specs.Order.{rankOf, keyOf, precedesOf};
 ghost use Rattle.float.specs.Roots.{differenceFactor};
 ghost use Rattle.float.specs.Sqrt.{sqrtOf, rootOf, quantaOfBits, IntegerRoot, guessOf, NotBelowRoot, FullWidth};
 
@@ -66,7 +66,7 @@ pub fn signum(x: f64) -> f64
 
 // The bits of |x| with the sign of x, by which numbers compare as `<` has them.
 fn rank(x: f64) -> i64
-    ensures { result ≡ rank_of x }
+    ensures { result ≡ rankOf x }
 {
     if x != x {
         return 0x7fff_ffff_ffff_ffff;
@@ -90,7 +90,7 @@ fn less(a: f64, b: f64) -> bool
 }
 
 pub fn max(a: f64, b: f64) -> f64
-    ensures { result ≡ max_of a b }
+    ensures { result ≡ maxOf a b }
 {
     if a != a {
         return b;
@@ -109,7 +109,7 @@ pub fn min(a: f64, b: f64) -> f64
 
 // The key of `total_cmp`.
 pub fn key(x: f64) -> i64
-    ensures { result ≡ key_of x }
+    ensures { result ≡ keyOf x }
 {
     if x != x {
         return 0x7fff_ffff_ffff_ffff;

@@ -18,8 +18,8 @@ later b a p q h e =
     let sum : q ≡ p + (q - p) = omega arith in
     rw sum (sym (drop-drop (q - p) p a) ∙ ap (λ (l : List ℕ). drop (q - p) l) e ∙ drop-drop (q - p) p b)
 
-pub wrote_none : (a : List ℕ) (at : ℕ) → Written a at a at []
-wrote_none a at = record { long = refl; place = omega arith; bytes = sym (append-nil (take at a)); rest = refl }
+pub wrote-none : (a : List ℕ) (at : ℕ) → Written a at a at []
+wrote-none a at = record { long = refl; place = omega arith; bytes = sym (append-nil (take at a)); rest = refl }
 
 -- one byte more
 pub wrote-more : {b a : List ℕ} {at p : ℕ} {t : List ℕ} → Written b at a p t → (x : ℕ) → p < length a → Written b at (set a p x) (p + 1) (t ++ (x ∷ []))
@@ -51,8 +51,8 @@ whole {b} {a} {p} {t} w =
     (end, sym (take-append-drop p a) ∙ ap (λ (l : List ℕ). l ++ drop p a) w.bytes ∙ ap (λ (l : List ℕ). t ++ l) (w.rest ∙ ap (λ (k : ℕ). drop k b) end))
 
 -- the next of a text that is copied byte by byte
-pub take_more : (s : List ℕ) (i : ℕ) → i < length s → take i s ++ (get_or s i 0 ∷ []) ≡ take (i + 1) s
-take_more s i h = rw (add-one i) (sym (take-suc s i 0 h))
+pub take-more : (s : List ℕ) (i : ℕ) → i < length s → take i s ++ (get_or s i 0 ∷ []) ≡ take (i + 1) s
+take-more s i h = rw (add-one i) (sym (take-suc s i 0 h))
 
 -- ---- digits
 
@@ -83,18 +83,18 @@ moved b (suc j) k at rest g out some h room e =
     ∙ ap (λ (m : ℕ). (todo ++ (glyphOf (rest % b) ∷ [])) ++ slice m (at + k) out) (sym last)
 
 -- the digits stand
-pub all_moved : (b k at n rest : ℕ) (out₀ out : List ℕ) → length out ≡ length out₀ → take at out ≡ take at out₀ → drop (at + k) out ≡ drop (at + k) out₀
+pub all-moved : (b k at n rest : ℕ) (out₀ out : List ℕ) → length out ≡ length out₀ → take at out ≡ take at out₀ → drop (at + k) out ≡ drop (at + k) out₀
     → numeral b 0 rest ++ slice (at + 0) (at + k) out ≡ numeral b k n → Written out₀ at out (at + k) (numeral b k n)
 unfolding numeral
-all_moved b k at n rest out₀ out long front back digits =
-    let zero_more : at + 0 ≡ at = omega arith in
+all-moved b k at n rest out₀ out long front back digits =
+    let zero-more : at + 0 ≡ at = omega arith in
     record {
       long = long;
       place = omega (arith, length-numeral b k n);
       bytes =
           sym (take-append-drop at (take (at + k) out))
           ∙ ap (λ (l : List ℕ). l ++ slice at (at + k) out) (take-take at (at + k) out (omega arith) ∙ front)
-          ∙ ap (λ (l : List ℕ). take at out₀ ++ l) (ap (λ (m : ℕ). slice m (at + k) out) (sym zero_more) ∙ digits);
+          ∙ ap (λ (l : List ℕ). take at out₀ ++ l) (ap (λ (m : ℕ). slice m (at + k) out) (sym zero-more) ∙ digits);
       rest = back;
     }
 

@@ -33,12 +33,12 @@ placesFrom zero n = 1
 placesFrom (suc k) n = cond (ltb n 10) 1 (placesFrom k (n / 10) + 1)
 
 -- of a u64
-abbrev pub places_of : ℕ → ℕ
-places_of n = placesFrom 19 n
+abbrev pub placesOf : ℕ → ℕ
+placesOf n = placesFrom 19 n
 
 -- "other numbers are decimal", with no leading zero
 unfoldable pub decimalText : ℕ → List ℕ
-decimalText n = numeral 10 (places_of n) n
+decimalText n = numeral 10 (placesOf n) n
 
 -- "f64 bits are shown as 16 hexadecimal digits"; `to_bits` of a NaN is 7FF8000000000000
 unfoldable pub valueText : Float → List ℕ

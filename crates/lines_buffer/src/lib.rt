@@ -4,7 +4,7 @@ ghost use Rattle.std.specs.Prelude.{◌≡◌, [], ◌∷◌, ◌+◌, ◌≤◌
 ghost use Rattle.std.specs.Float.Ieee.{to_bits};
 ghost use Rattle.std.specs.Float.{binary64};
 ghost use Rattle.vector.specs.Lists.{first};
-ghost use Rattle.lines_buffer.specs.Texts.{Written, glyphOf, numeral, places_of, decimalText, valueText, valuesText};
+ghost use Rattle.lines_buffer.specs.Texts.{Written, glyphOf, numeral, placesOf, decimalText, valueText, valuesText};
 
 // The bits of a value, one pattern for every NaN.
 fn bits(x: f64) -> u64
@@ -53,7 +53,7 @@ fn put_digits(out: &mut [u8], at: usize, base: u64, k: usize, n: u64) -> usize
 
 // How many decimal digits n has.
 fn places(n: u64) -> usize
-    ensures { (result ≡ places_of n) × (result ≤ 20) }
+    ensures { (result ≡ placesOf n) × (result ≤ 20) }
 {
     let mut k: usize = 19;
     let mut rest = n;

@@ -38,8 +38,8 @@ unfoldable pub spellsOf : Field → ℕ → ℕ → Bool
 spellsOf f size text = cond (eqb f.size size) (cond f.text.fits (eqb f.text.value text) false) false
 
 -- a field as each of the shapes
-unfoldable pub word_of : Field → Reading
-word_of f = cond (eqb f.size 16) (cond f.hex.fits (formed f.hex.value) malformed) malformed
+unfoldable pub wordOf : Field → Reading
+wordOf f = cond (eqb f.size 16) (cond f.hex.fits (formed f.hex.value) malformed) malformed
 
 unfoldable pub decimalOf : Field → Reading
 decimalOf f = cond (eqb f.size 0) malformed (cond f.dec.fits (formed f.dec.value) malformed)
@@ -53,15 +53,15 @@ flagOf f = cond (spellsOf f 1 48) (formed 0) (cond (spellsOf f 1 49) (formed 1) 
 unfoldable pub letterOf : Field → Reading
 letterOf f = cond (spellsOf f 1 86) (formed 86) (cond (spellsOf f 1 71) (formed 71) malformed)
 
-unfoldable pub job_of : Field → Reading
-job_of f = cond (spellsOf f 7 0x73696d706c6578) (formed 1) (cond (spellsOf f 4 0x62666773) (formed 2) (cond (spellsOf f 5 0x6c62666773) (formed 3) malformed))
+unfoldable pub jobOf : Field → Reading
+jobOf f = cond (spellsOf f 7 0x73696d706c6578) (formed 1) (cond (spellsOf f 4 0x62666773) (formed 2) (cond (spellsOf f 5 0x6c62666773) (formed 3) malformed))
 
 unfoldable pub judgedOf : ℕ → Field → Reading
 judgedOf k f =
-    cond (eqb k word) (word_of f)
+    cond (eqb k word) (wordOf f)
     (cond (eqb k decimal) (decimalOf f)
     (cond (eqb k maybe) (maybeOf f)
     (cond (eqb k flag) (flagOf f)
     (cond (eqb k letter) (letterOf f)
-    (cond (eqb k job) (job_of f)
+    (cond (eqb k job) (jobOf f)
     malformed)))))

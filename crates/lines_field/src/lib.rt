@@ -1,7 +1,7 @@
 // One field of a line, byte by byte, and what it is when it ends.
 ghost use Rattle.std.specs.Prelude.{◌≡◌, ◌<◌};
 ghost use Rattle.lines_field.specs.Shapes.{digitOf, malformed, formed};
-ghost use Rattle.lines_field.specs.Fields.{lostOf, growOf, blankFieldOf, lengthenedOf, addedOf, spellsOf, word_of, decimalOf, maybeOf, flagOf, letterOf, job_of, judgedOf};
+ghost use Rattle.lines_field.specs.Fields.{lostOf, growOf, blankFieldOf, lengthenedOf, addedOf, spellsOf, wordOf, decimalOf, maybeOf, flagOf, letterOf, jobOf, judgedOf};
 
 // A number that is read digit by digit, and whether each was a digit of its base and the number fits.
 #[derive(Clone, Copy)]
@@ -151,7 +151,7 @@ fn spells(f: Field, size: u64, text: u64) -> bool
 }
 
 fn word(f: Field) -> Reading
-    ensures { result ≡ word_of f }
+    ensures { result ≡ wordOf f }
 {
     if f.size != 16 {
         return unfit();
@@ -214,7 +214,7 @@ fn letter(f: Field) -> Reading
 }
 
 fn job(f: Field) -> Reading
-    ensures { result ≡ job_of f }
+    ensures { result ≡ jobOf f }
 {
     if spells(f, 7, 0x73_696d_706c_6578) {
         return fit(1);

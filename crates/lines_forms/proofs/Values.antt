@@ -14,12 +14,12 @@ use Rattle.vector.specs.Loops.{upto}
 use Rattle.vector.proofs.Loops.{length-upto}
 
 -- `0.0 / 0.0`
-zero_by_zero : bits 0 ⊘ bits 0 ≡ nan
+zero-by-zero : bits 0 ⊘ bits 0 ≡ nan
 unfolding div of_bits
-zero_by_zero = refl
+zero-by-zero = refl
 
 pub nan-bits : (b : ℕ) → 0x7ff0_0000_0000_0000 < bit_and b 0x7fff_ffff_ffff_ffff → bits 0 ⊘ bits 0 ≡ bits b
-nan-bits b h = zero_by_zero ∙ sym (nan-above b (omega (arith, and_mask b 63)))
+nan-bits b h = zero-by-zero ∙ sym (nan-above b (omega (arith, and_mask b 63)))
 
 -- one place of seventeen more
 pub turn : (g : ℕ → Float) (i : ℕ) (w : List Float) (x : Float) → i < 17 → w ≡ upto g i ++ replicate (17 - i) plusZero → x ≡ g i → set w i x ≡ upto g (i + 1) ++ replicate (17 - (i + 1)) plusZero

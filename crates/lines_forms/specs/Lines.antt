@@ -15,15 +15,15 @@ use Rattle.lines_forms.specs.declared.AnswerLine.{AnswerLine}
 -- ---- fields as the engine's types
 
 -- the number of the field at i
-abbrev pub number_at : List Reading → ℕ → ℕ
-number_at vs i = (get_or vs i malformed).word
+abbrev pub numberAt : List Reading → ℕ → ℕ
+numberAt vs i = (get_or vs i malformed).word
 
 -- "as bits"
 abbrev pub valueIn : Reading → Float
 valueIn v = bits v.word
 
-abbrev pub value_at : List Reading → ℕ → Float
-value_at vs i = valueIn (get_or vs i malformed)
+abbrev pub valueAt : List Reading → ℕ → Float
+valueAt vs i = valueIn (get_or vs i malformed)
 
 -- ---- what a line of bytes says; `none` for one of another form, which is `bad`
 
@@ -37,7 +37,7 @@ hasForm form n bs = eqb (length (readings form bs)) n && allOk (readings form bs
 
 -- "Line 1: `simplex`, `bfgs` or `lbfgs`, and n.": the job's mark, and n
 unfoldable pub firstLine : List ℕ → Option (ℕ × ℕ)
-firstLine bs = someIf (hasForm line1 2 bs) (number_at (readings line1 bs) 0, number_at (readings line1 bs) 1)
+firstLine bs = someIf (hasForm line1 2 bs) (numberAt (readings line1 bs) 0, numberAt (readings line1 bs) 1)
 
 -- "Line 3: x0.", where line 1 said n: n words, and none is the empty line. A count above 2^64 - 1 counts as that.
 unfoldable pub pointLine : ℕ → List ℕ → Option (List Float)
@@ -49,25 +49,25 @@ pointLine n bs =
 unfoldable pub answerLine : List ℕ → Option Answer
 answerLine bs =
     someIf (ltb 1 (length (readings answers bs)) && allOk (readings answers bs))
-    (record { number = number_at (readings answers bs) 0; kind = number_at (readings answers bs) 1; words = map valueIn (drop 2 (readings answers bs)) })
+    (record { number = numberAt (readings answers bs) 0; kind = numberAt (readings answers bs) 1; words = map valueIn (drop 2 (readings answers bs)) })
 
 -- ---- what the code makes of a line that was read
 
 -- the words of n fields, from a place on
-unfoldable pub words_of : List Reading → ℕ → ℕ → List Float
-words_of vs from n = upto (λ i. value_at vs (from + i)) n
+unfoldable pub wordsOf : List Reading → ℕ → ℕ → List Float
+wordsOf vs from n = upto (λ i. valueAt vs (from + i)) n
 
-unfoldable pub whole_of : LineRead → ℕ → Bool
-whole_of l n = cond (eqb l.count n) l.ok false
+unfoldable pub wholeOf : LineRead → ℕ → Bool
+wholeOf l n = cond (eqb l.count n) l.ok false
 
 unfoldable pub firstLineOf : LineRead → FirstLine
-firstLineOf l = record { ok = whole_of l 2; job = number_at l.fields 0; n = number_at l.fields 1 }
+firstLineOf l = record { ok = wholeOf l 2; job = numberAt l.fields 0; n = numberAt l.fields 1 }
 
 unfoldable pub pointHoldsOf : LineRead → ℕ → Bool
-pointHoldsOf l n = cond (eqb n 0) l.empty (whole_of l n)
+pointHoldsOf l n = cond (eqb n 0) l.empty (wholeOf l n)
 
 unfoldable pub pointLineOf : LineRead → ℕ → PointLine
-pointLineOf l n = record { ok = pointHoldsOf l n; x = words_of l.fields 0 17 }
+pointLineOf l n = record { ok = pointHoldsOf l n; x = wordsOf l.fields 0 17 }
 
 -- words past the seventeenth are not kept
 unfoldable pub wordCountOf : ℕ → ℕ
@@ -77,7 +77,7 @@ unfoldable pub answerHoldsOf : LineRead → Bool
 answerHoldsOf l = cond (ltb l.count 2) false l.ok
 
 unfoldable pub answerLineOf : LineRead → AnswerLine
-answerLineOf l = record { ok = answerHoldsOf l; number = number_at l.fields 0; kind = number_at l.fields 1 % 256; count = wordCountOf l.count; words = words_of l.fields 2 17 }
+answerLineOf l = record { ok = answerHoldsOf l; number = numberAt l.fields 0; kind = numberAt l.fields 1 % 256; count = wordCountOf l.count; words = wordsOf l.fields 2 17 }
 
 -- the first seventeen of a list, +0.0 where it has fewer
 abbrev pub seventeen : List Float → List Float

@@ -1,7 +1,7 @@
 // What line 1, line 3 and an answer say, once the reader has read them.
 ghost use Rattle.std.specs.Prelude.{◌≡◌, ◌≤◌};
 ghost use Rattle.float.specs.Binary64.{bits};
-ghost use Rattle.lines_forms.specs.Lines.{words_of, whole_of, firstLineOf, pointHoldsOf, pointLineOf, wordCountOf, answerHoldsOf, answerLineOf};
+ghost use Rattle.lines_forms.specs.Lines.{wordsOf, wholeOf, firstLineOf, pointHoldsOf, pointLineOf, wordCountOf, answerHoldsOf, answerLineOf};
 
 use lines_field::Reading;
 use lines_reader::LineRead;
@@ -45,7 +45,7 @@ fn value(b: u64) -> f64
 // The f64s of seventeen fields, from a place on.
 pub fn words(fields: [Reading; 20], from: usize) -> [f64; 17]
     requires { from ≤ 3 }
-    ensures { result ≡ words_of fields from 17 }
+    ensures { result ≡ wordsOf fields from 17 }
 {
     let mut w = [0.0; 17];
     let mut i: usize = 0;
@@ -59,7 +59,7 @@ pub fn words(fields: [Reading; 20], from: usize) -> [f64; 17]
 
 // Whether a line has n fields, each of its shape.
 pub fn whole(l: LineRead, n: usize) -> bool
-    ensures { result ≡ whole_of l n }
+    ensures { result ≡ wholeOf l n }
 {
     if l.count == n {
         return l.ok;

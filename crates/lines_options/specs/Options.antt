@@ -9,7 +9,7 @@ use Rattle.lines_field.specs.declared.Reading.{Reading}
 use Rattle.lines_field.specs.Shapes.{malformed}
 use Rattle.lines_reader.specs.declared.LineRead.{LineRead}
 use Rattle.lines_reader.specs.Forms.{readings, simplexLine2, gradientLine2}
-use Rattle.lines_forms.specs.Lines.{number_at, value_at, someIf, hasForm, whole_of}
+use Rattle.lines_forms.specs.Lines.{numberAt, valueAt, someIf, hasForm, wholeOf}
 use Rattle.lines_options.specs.declared.SimplexLine.{SimplexLine}
 use Rattle.lines_options.specs.declared.GradientLine.{GradientLine}
 
@@ -25,18 +25,18 @@ allowancesAt vs i = record { iter = allowanceIn (get_or vs i malformed); fevals 
 
 -- "x_tol f_tol initial_step as bits, max_iter max_fevals (`-` absent), restarts, adaptive (0 or 1)"
 abbrev pub simplexOptionsIn : List Reading → SimplexOptions
-simplexOptionsIn vs = record { xtol = value_at vs 0; ftol = value_at vs 1; step = value_at vs 2; restarts = number_at vs 5; adaptive = eqb (number_at vs 6) 1 }
+simplexOptionsIn vs = record { xtol = valueAt vs 0; ftol = valueAt vs 1; step = valueAt vs 2; restarts = numberAt vs 5; adaptive = eqb (numberAt vs 6) 1 }
 
 -- "grad_tol f_tol x_tol c1 c2 step_max as bits, max_iter max_fevals max_evals memory, gradients (0 or 1)"
 abbrev pub gradientOptionsIn : List Reading → GradientOptions
 gradientOptionsIn vs =
     record {
-      gradtol = value_at vs 0;
-      ftol = value_at vs 1;
-      xtol = value_at vs 2;
-      wolfe = record { c1 = value_at vs 3; c2 = value_at vs 4; stepmax = value_at vs 5; evals = number_at vs 8 };
-      memory = number_at vs 9;
-      gradients = eqb (number_at vs 10) 1;
+      gradtol = valueAt vs 0;
+      ftol = valueAt vs 1;
+      xtol = valueAt vs 2;
+      wolfe = record { c1 = valueAt vs 3; c2 = valueAt vs 4; stepmax = valueAt vs 5; evals = numberAt vs 8 };
+      memory = numberAt vs 9;
+      gradients = eqb (numberAt vs 10) 1;
     }
 
 -- ---- what a line of bytes says; `none` for one of another form, which is `bad`
@@ -52,7 +52,7 @@ gradientLine bs = someIf (hasForm gradientLine2 11 bs) (gradientOptionsIn (readi
 -- ---- what the code makes of a line that was read
 
 unfoldable pub simplexLineOf : LineRead → SimplexLine
-simplexLineOf l = record { ok = whole_of l 7; options = simplexOptionsIn l.fields; allowances = allowancesAt l.fields 3 }
+simplexLineOf l = record { ok = wholeOf l 7; options = simplexOptionsIn l.fields; allowances = allowancesAt l.fields 3 }
 
 unfoldable pub gradientLineOf : LineRead → GradientLine
-gradientLineOf l = record { ok = whole_of l 11; options = gradientOptionsIn l.fields; allowances = allowancesAt l.fields 6 }
+gradientLineOf l = record { ok = wholeOf l 11; options = gradientOptionsIn l.fields; allowances = allowancesAt l.fields 6 }

@@ -44,5 +44,5 @@ limitedOf n = cond (ltb n 16) n 16
 abbrev pub questionOf : ℕ → Kind → List Float → ℕ → Question
 questionOf number kind x n = record { number = number; kind = kind; point = first (limitedOf n) x }
 
-abbrev pub result_of : Summary → List Float → ℕ → Result
-result_of s x n = record { reason = s.reason; converged = s.converged; iterations = s.iterations; fevals = s.fevals; gevals = s.gevals; f = s.f; x = first (limitedOf n) x }
+abbrev pub resultOf : Summary → List Float → ℕ → Result
+resultOf s x n = record { reason = s.reason; converged = s.converged; iterations = s.iterations; fevals = s.fevals; gevals = s.gevals; f = s.f; x = first (limitedOf n) x }

@@ -5,7 +5,7 @@ mod reasons;
 ghost use Rattle.std.specs.Prelude.{◌≡◌, ◌≤◌, length};
 ghost use Rattle.protocol.specs.Protocol.{letter};
 ghost use Rattle.lines_buffer.specs.Texts.{filled};
-ghost use Rattle.lines_print.specs.Print.{limitedOf, questionOf, result_of, askText, endText, noText, badText};
+ghost use Rattle.lines_print.specs.Print.{limitedOf, questionOf, resultOf, askText, endText, noText, badText};
 
 use lines_buffer::{put_byte, put_count, put_decimal, put_text, put_value, put_values};
 use protocol::{Kind, Summary};
@@ -65,7 +65,7 @@ pub fn put_ask(out: &mut [u8; 512], number: u64, kind: Kind, x: [f64; 16], n: us
 
 // `end`, a result: reason, converged, iterations, fevals, gevals, f, x.
 pub fn put_end(out: &mut [u8; 512], s: Summary, x: [f64; 16], n: usize) -> usize
-    ensures { (result ≡ length (endText (result_of s x n))) × (out.new ≡ filled out.old (endText (result_of s x n))) }
+    ensures { (result ≡ length (endText (resultOf s x n))) × (out.new ≡ filled out.old (endText (resultOf s x n))) }
 {
     let m = limited(n);
     let reason = s.reason;

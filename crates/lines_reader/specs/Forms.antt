@@ -78,8 +78,8 @@ empty [] = true
 empty (b ∷ bs) = false
 
 -- What is read off a line of a form: how many fields it has, whether each has its shape, whether it is empty, and the first twenty
-unfoldable pub line_of : ℕ → List ℕ → LineRead
+unfoldable pub lineOf : ℕ → List ℕ → LineRead
 unfolding fieldsFrom
-line_of form bs =
+lineOf form bs =
     let vs = readings form bs in
     record { form = form; count = capped (length vs); ok = allOk vs; empty = empty bs; fields = firsts 20 vs }

@@ -27,8 +27,8 @@ abbrev pub freshLineOf : ℕ → LineRead
 freshLineOf form = record { form = form; count = 0; ok = true; empty = false; fields = replicate 20 malformed }
 
 -- a field put to the line
-unfoldable pub taken_of : LineRead → Field → LineRead
-taken_of l f =
+unfoldable pub takenOf : LineRead → Field → LineRead
+takenOf l f =
     let v = judgedOf (shapeAtOf l.form l.count) f in
     record { form = l.form; count = oneMoreOf l.count; ok = l.ok && v.ok; empty = aloneOf l.count f.size; fields = keptOf l.fields l.count v }
 
@@ -40,7 +40,7 @@ startedOf form = record { field = blankFieldOf; line = freshLineOf form }
 
 -- one byte more: a space ends a field
 unfoldable pub fedOf : Reader → ℕ → Reader
-fedOf r b = cond (eqb b 32) (record { field = blankFieldOf; line = taken_of r.line r.field }) (record { field = addedOf r.field b; line = r.line })
+fedOf r b = cond (eqb b 32) (record { field = blankFieldOf; line = takenOf r.line r.field }) (record { field = addedOf r.field b; line = r.line })
 
 -- all bytes of a line, in order
 unfoldable pub fedAll : Reader → List ℕ → Reader
@@ -50,7 +50,7 @@ fedAll r (b ∷ bs) = fedAll (fedOf r b) bs
 
 -- the line's end ends its last field
 abbrev pub finishedOf : Reader → LineRead
-finishedOf r = taken_of r.line r.field
+finishedOf r = takenOf r.line r.field
 
 -- whether the line has a byte so far
 unfoldable pub begunOf : Reader → Bool

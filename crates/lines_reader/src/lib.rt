@@ -3,7 +3,7 @@
 // field's place.
 ghost use Rattle.std.specs.Prelude.{◌≡◌, ◌&&◌};
 ghost use Rattle.lines_reader.specs.Forms.{shapeAtOf};
-ghost use Rattle.lines_reader.specs.Reader.{oneMoreOf, keptOf, aloneOf, freshLineOf, taken_of, startedOf, fedOf, finishedOf, begunOf};
+ghost use Rattle.lines_reader.specs.Reader.{oneMoreOf, keptOf, aloneOf, freshLineOf, takenOf, startedOf, fedOf, finishedOf, begunOf};
 
 use lines_field::{Field, Reading};
 
@@ -134,7 +134,7 @@ fn fresh_line(form: u64) -> LineRead
 
 // The line with one field more.
 fn taken(l: LineRead, f: Field) -> LineRead
-    ensures { result ≡ taken_of l f }
+    ensures { result ≡ takenOf l f }
 {
     let at = l.count;
     let shape = shape_at(l.form, at);

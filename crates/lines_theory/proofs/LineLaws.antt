@@ -13,74 +13,74 @@ use lib.Ieee.{Float, of_bits}
 use borrow.Author.Tests.{ltb-true, ltb-false, lt-ltb, le-ltb, ne_eqb}
 use Rattle.float.specs.Binary64.{plusZero}
 use Rattle.float.proofs.Tests.{by, cond-and}
-use Rattle.float.proofs.Bits.{zero_is}
+use Rattle.float.proofs.Bits.{zero-is}
 use Rattle.vector.proofs.First.{upto-same}
 use Rattle.lines_field.specs.declared.Reading.{Reading}
 use Rattle.lines_forms.specs.declared.PointLine.{PointLine}
 use Rattle.lines_field.specs.Shapes.{most, malformed, same, digits, below, wordField, letterField, fieldAs}
-use Rattle.lines_reader.specs.Forms.{shapeAtOf, fieldsFrom, readingsFrom, readings, allOk, firsts, capped, empty, line_of}
-use Rattle.lines_forms.specs.Lines.{number_at, valueIn, value_at, someIf, hasForm, firstLine, pointLine, answerLine, words_of, whole_of, firstLineOf, pointHoldsOf, pointLineOf, wordCountOf, answerHoldsOf, answerLineOf, seventeen}
+use Rattle.lines_reader.specs.Forms.{shapeAtOf, fieldsFrom, readingsFrom, readings, allOk, firsts, capped, empty, lineOf}
+use Rattle.lines_forms.specs.Lines.{numberAt, valueIn, valueAt, someIf, hasForm, firstLine, pointLine, answerLine, wordsOf, wholeOf, firstLineOf, pointHoldsOf, pointLineOf, wordCountOf, answerHoldsOf, answerLineOf, seventeen}
 use Rattle.lines_options.specs.Options.{simplexLine, gradientLine, simplexLineOf, gradientLineOf}
 use Rattle.lines_theory.specs.Laws.{keptPoint, keptAnswer, LineLaws}
 
 -- ---- the fields that are kept, and how many there are
 
-at_first : (k i : ℕ) (vs : List Reading) → i < k → get_or (firsts k vs) i malformed ≡ get_or vs i malformed
+at-first : (k i : ℕ) (vs : List Reading) → i < k → get_or (firsts k vs) i malformed ≡ get_or vs i malformed
 unfolding firsts
-at_first zero i vs h = absurd (omega arith)
-at_first (suc k) zero [] h = refl
-at_first (suc k) (suc i) [] h = at_first k i [] (omega arith)
-at_first (suc k) zero (v ∷ vs) h = refl
-at_first (suc k) (suc i) (v ∷ vs) h = at_first k i vs (omega arith)
+at-first zero i vs h = absurd (omega arith)
+at-first (suc k) zero [] h = refl
+at-first (suc k) (suc i) [] h = at-first k i [] (omega arith)
+at-first (suc k) zero (v ∷ vs) h = refl
+at-first (suc k) (suc i) (v ∷ vs) h = at-first k i vs (omega arith)
 
-number-first : (i : ℕ) (vs : List Reading) → i < 20 → number_at (firsts 20 vs) i ≡ number_at vs i
-number-first i vs h = ap (λ (v : Reading). v.word) (at_first 20 i vs h)
+number-first : (i : ℕ) (vs : List Reading) → i < 20 → numberAt (firsts 20 vs) i ≡ numberAt vs i
+number-first i vs h = ap (λ (v : Reading). v.word) (at-first 20 i vs h)
 
-capped_is : (m n : ℕ) → n < most → eqb (capped m) n ≡ eqb m n
-capped_is m n h =
+capped-is : (m n : ℕ) → n < most → eqb (capped m) n ≡ eqb m n
+capped-is m n h =
     by (ltb m most)
     (λ p. rw p)
     (λ p.
     let far : most ≤ m = ltb-false m most p in
     rw (p, ne_eqb m n (λ e. omega arith)) (ne_eqb most n (λ e. omega arith)))
 
-whole_is : (form n : ℕ) (bs : List ℕ) → n < most → whole_of (line_of form bs) n ≡ hasForm form n bs
-unfolding whole_of line_of
-whole_is form n bs h = rw (capped_is (length (readings form bs)) n h) (cond-and (eqb (length (readings form bs)) n) (allOk (readings form bs)))
+whole-is : (form n : ℕ) (bs : List ℕ) → n < most → wholeOf (lineOf form bs) n ≡ hasForm form n bs
+unfolding wholeOf lineOf
+whole-is form n bs h = rw (capped-is (length (readings form bs)) n h) (cond-and (eqb (length (readings form bs)) n) (allOk (readings form bs)))
 
-first-is : (bs : List ℕ) → someIf (firstLineOf (line_of 1 bs)).ok ((firstLineOf (line_of 1 bs)).job, (firstLineOf (line_of 1 bs)).n) ≡ firstLine bs
-unfolding firstLineOf firstLine line_of
-first-is bs = let vs = readings 1 bs in rw (whole_is 1 2 bs (omega arith), at_first 20 0 vs (omega arith), at_first 20 1 vs (omega arith))
+first-is : (bs : List ℕ) → someIf (firstLineOf (lineOf 1 bs)).ok ((firstLineOf (lineOf 1 bs)).job, (firstLineOf (lineOf 1 bs)).n) ≡ firstLine bs
+unfolding firstLineOf firstLine lineOf
+first-is bs = let vs = readings 1 bs in rw (whole-is 1 2 bs (omega arith), at-first 20 0 vs (omega arith), at-first 20 1 vs (omega arith))
 
-simplex-is : (bs : List ℕ) → someIf (simplexLineOf (line_of 2 bs)).ok ((simplexLineOf (line_of 2 bs)).options, (simplexLineOf (line_of 2 bs)).allowances) ≡ simplexLine bs
-unfolding simplexLineOf simplexLine line_of
+simplex-is : (bs : List ℕ) → someIf (simplexLineOf (lineOf 2 bs)).ok ((simplexLineOf (lineOf 2 bs)).options, (simplexLineOf (lineOf 2 bs)).allowances) ≡ simplexLine bs
+unfolding simplexLineOf simplexLine lineOf
 simplex-is bs =
     let vs = readings 2 bs in
     rw (
-      whole_is 2 7 bs (omega arith),
-      at_first 20 0 vs (omega arith),
-      at_first 20 1 vs (omega arith),
-      at_first 20 2 vs (omega arith),
-      at_first 20 3 vs (omega arith),
-      at_first 20 4 vs (omega arith),
+      whole-is 2 7 bs (omega arith),
+      at-first 20 0 vs (omega arith),
+      at-first 20 1 vs (omega arith),
+      at-first 20 2 vs (omega arith),
+      at-first 20 3 vs (omega arith),
+      at-first 20 4 vs (omega arith),
       number-first 5 vs (omega arith),
       number-first 6 vs (omega arith),
     )
 
-gradient-is : (bs : List ℕ) → someIf (gradientLineOf (line_of 3 bs)).ok ((gradientLineOf (line_of 3 bs)).options, (gradientLineOf (line_of 3 bs)).allowances) ≡ gradientLine bs
-unfolding gradientLineOf gradientLine line_of
+gradient-is : (bs : List ℕ) → someIf (gradientLineOf (lineOf 3 bs)).ok ((gradientLineOf (lineOf 3 bs)).options, (gradientLineOf (lineOf 3 bs)).allowances) ≡ gradientLine bs
+unfolding gradientLineOf gradientLine lineOf
 gradient-is bs =
     let vs = readings 3 bs in
     rw (
-      whole_is 3 11 bs (omega arith),
-      at_first 20 0 vs (omega arith),
-      at_first 20 1 vs (omega arith),
-      at_first 20 2 vs (omega arith),
-      at_first 20 3 vs (omega arith),
-      at_first 20 4 vs (omega arith),
-      at_first 20 5 vs (omega arith),
-      at_first 20 6 vs (omega arith),
-      at_first 20 7 vs (omega arith),
+      whole-is 3 11 bs (omega arith),
+      at-first 20 0 vs (omega arith),
+      at-first 20 1 vs (omega arith),
+      at-first 20 2 vs (omega arith),
+      at-first 20 3 vs (omega arith),
+      at-first 20 4 vs (omega arith),
+      at-first 20 5 vs (omega arith),
+      at-first 20 6 vs (omega arith),
+      at-first 20 7 vs (omega arith),
       number-first 8 vs (omega arith),
       number-first 9 vs (omega arith),
       number-first 10 vs (omega arith),
@@ -89,15 +89,15 @@ gradient-is bs =
 -- ---- words
 
 value-at : (vs : List Reading) (k : ℕ) → get_or (map valueIn vs) k plusZero ≡ valueIn (get_or vs k malformed)
-value-at [] k = sym zero_is
+value-at [] k = sym zero-is
 value-at (v ∷ vs) zero = refl
 value-at (v ∷ vs) (suc k) = value-at vs k
 
-words-is : (from : ℕ) (vs : List Reading) → from ≤ 3 → words_of (firsts 20 vs) from 17 ≡ seventeen (map valueIn (drop from vs))
-unfolding words_of
+words-is : (from : ℕ) (vs : List Reading) → from ≤ 3 → wordsOf (firsts 20 vs) from 17 ≡ seventeen (map valueIn (drop from vs))
+unfolding wordsOf
 words-is from vs h =
-    upto-same (λ i. value_at (firsts 20 vs) (from + i)) (λ i. get_or (map valueIn (drop from vs)) i plusZero) 17
-    (λ k l. ap valueIn (at_first 20 (from + k) vs (omega arith) ∙ sym (get_or-drop from vs k malformed)) ∙ sym (value-at (drop from vs) k))
+    upto-same (λ i. valueAt (firsts 20 vs) (from + i)) (λ i. get_or (map valueIn (drop from vs)) i plusZero) 17
+    (λ k l. ap valueIn (at-first 20 (from + k) vs (omega arith) ∙ sym (get_or-drop from vs k malformed)) ∙ sym (value-at (drop from vs) k))
 
 map-given : {A B : Type 0} (f : A → B) (b : Bool) (x : A) → someIf b (f x) ≡ Option.map f (someIf b x)
 map-given f true x = refl
@@ -107,20 +107,20 @@ when : {A : Type 0} (b : Bool) (x y : A) → (b ≡ true → x ≡ y) → someIf
 when true x y e = ap (λ z. someIf true z) (e refl)
 when false x y e = refl
 
-empty-words : words_of (firsts 20 (readings 4 [])) 0 17 ≡ seventeen []
+empty-words : wordsOf (firsts 20 (readings 4 [])) 0 17 ≡ seventeen []
 unfolding fieldsFrom readingsFrom fieldAs shapeAtOf wordField digits below of_bits
 empty-words = words-is 0 (readings 4 []) (omega arith)
 
-abbrev point_of : Bool → List Float → PointLine
-point_of ok x = record { ok = ok; x = x }
+abbrev pointOf : Bool → List Float → PointLine
+pointOf ok x = record { ok = ok; x = x }
 
-empty-point : (bs : List ℕ) → someIf (empty bs) (point_of (empty bs) (words_of (firsts 20 (readings 4 bs)) 0 17)) ≡ Option.map keptPoint (someIf (empty bs) [])
+empty-point : (bs : List ℕ) → someIf (empty bs) (pointOf (empty bs) (wordsOf (firsts 20 (readings 4 bs)) 0 17)) ≡ Option.map keptPoint (someIf (empty bs) [])
 unfolding empty
-empty-point [] = ap (λ x. some (point_of true x)) empty-words
+empty-point [] = ap (λ x. some (pointOf true x)) empty-words
 empty-point (b ∷ bs) = refl
 
-point-is : (n : ℕ) (bs : List ℕ) → someIf (pointLineOf (line_of 4 bs) n).ok (pointLineOf (line_of 4 bs) n) ≡ Option.map keptPoint (pointLine n bs)
-unfolding pointLineOf pointHoldsOf whole_of pointLine line_of
+point-is : (n : ℕ) (bs : List ℕ) → someIf (pointLineOf (lineOf 4 bs) n).ok (pointLineOf (lineOf 4 bs) n) ≡ Option.map keptPoint (pointLine n bs)
+unfolding pointLineOf pointHoldsOf wholeOf pointLine lineOf
 point-is n bs =
     let vs = readings 4 bs in
     by (eqb n 0)
@@ -132,8 +132,8 @@ point-is n bs =
 
 -- ---- answers
 
-two_is : (m : ℕ) → ltb (capped m) 2 ≡ not (ltb 1 m)
-two_is m =
+two-is : (m : ℕ) → ltb (capped m) 2 ≡ not (ltb 1 m)
+two-is m =
     by (ltb m most)
     (λ p. rw p
     (by (ltb 1 m)
@@ -171,21 +171,21 @@ letter-small f =
     (λ p. rw p (omega arith))
     (λ p. by (same f (71 ∷ [])) (λ q. rw (p, q) (omega arith)) (λ q. rw (p, q) (omega arith)))
 
-kind-small : (fs : List (List ℕ)) → number_at (readingsFrom 5 0 fs) 1 < 256
+kind-small : (fs : List (List ℕ)) → numberAt (readingsFrom 5 0 fs) 1 < 256
 unfolding readingsFrom fieldAs shapeAtOf
 kind-small [] = omega arith
 kind-small (f ∷ []) = omega arith
 kind-small (f ∷ g ∷ fs) = letter-small g
 
-answer-is : (bs : List ℕ) → someIf (answerLineOf (line_of 5 bs)).ok (answerLineOf (line_of 5 bs)) ≡ Option.map keptAnswer (answerLine bs)
-unfolding answerLineOf answerHoldsOf answerLine line_of
+answer-is : (bs : List ℕ) → someIf (answerLineOf (lineOf 5 bs)).ok (answerLineOf (lineOf 5 bs)) ≡ Option.map keptAnswer (answerLine bs)
+unfolding answerLineOf answerHoldsOf answerLine lineOf
 answer-is bs =
     let vs = readings 5 bs in
-    let kind : number_at vs 1 % 256 ≡ number_at vs 1 = omega (arith, kind-small (fieldsFrom [] bs)) in
+    let kind : numberAt vs 1 % 256 ≡ numberAt vs 1 = omega (arith, kind-small (fieldsFrom [] bs)) in
     let count : length (map valueIn (drop 2 vs)) ≡ length vs - 2 = length-map (drop 2 vs) valueIn ∙ length-drop 2 vs in
-    rw (two_is (length vs), holds-is (ltb 1 (length vs)) (allOk vs), number-first 0 vs (omega arith), number-first 1 vs (omega arith), kind, count-is (length vs), words-is 2 vs (omega arith))
+    rw (two-is (length vs), holds-is (ltb 1 (length vs)) (allOk vs), number-first 0 vs (omega arith), number-first 1 vs (omega arith), kind, count-is (length vs), words-is 2 vs (omega arith))
     (when (ltb 1 (length vs) && allOk vs) _ _ (λ e. rw (e, count))
-    ∙ map-given keptAnswer (ltb 1 (length vs) && allOk vs) (record { number = number_at vs 0; kind = number_at vs 1; words = map valueIn (drop 2 vs) }))
+    ∙ map-given keptAnswer (ltb 1 (length vs) && allOk vs) (record { number = numberAt vs 0; kind = numberAt vs 1; words = map valueIn (drop 2 vs) }))
 
 pub line-laws : LineLaws
 line-laws = record { first-is = first-is; simplex-is = simplex-is; gradient-is = gradient-is; point-is = point-is; answer-is = answer-is }

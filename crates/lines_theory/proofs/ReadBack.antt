@@ -22,15 +22,15 @@ use Rattle.protocol.specs.Protocol.{letter, Question, Answer, Result}
 use Rattle.lines_field.specs.Shapes.{most, digitOf, digits, below, spelt, same, formed, wordField, decimalField, letterField, fieldAs}
 use Rattle.lines_reader.specs.Forms.{shapeAtOf, fieldsFrom, fields, readingsFrom, readings, allOk}
 use Rattle.lines_forms.specs.Lines.{valueIn, answerLine}
-use Rattle.lines_theory.proofs.Pieces.{same_self}
-use Rattle.lines_buffer.specs.Texts.{glyphOf, numeral, placesFrom, places_of, decimalText, valueText, valuesText}
+use Rattle.lines_theory.proofs.Pieces.{same-self}
+use Rattle.lines_buffer.specs.Texts.{glyphOf, numeral, placesFrom, placesOf, decimalText, valueText, valuesText}
 use Rattle.lines_print.specs.Reasons.{reasonText, flagText}
 use Rattle.lines_print.specs.Print.{answerText, askText, endBefore, endText}
 use Rattle.lines_theory.specs.ReadBack.{reasonAmong, reasonField, yesField, resultIn, endFields, endLine, AllF64, Printable, echoOf, ReadBackLaws}
 use Rattle.lines_buffer.proofs.Writes.{length-numeral}
 
-never_true : false ≡ true → ⊥
-never_true e = true≢false (sym e)
+never-true : false ≡ true → ⊥
+never-true e = true≢false (sym e)
 
 -- ---- fields
 
@@ -44,7 +44,7 @@ unfolding fieldsFrom clean
 fields-on g [] rest e = ap (λ (l : List ℕ). fieldsFrom l rest) (sym (append-nil g))
 fields-on g (b ∷ f) rest e =
     by (eqb b 32)
-    (λ p. absurd (never_true (rw p at e)))
+    (λ p. absurd (never-true (rw p at e)))
     (λ p. rw p (fields-on (g ++ (b ∷ [])) f rest (rw p at e) ∙ ap (λ (l : List ℕ). fieldsFrom l rest) (append_assoc g (b ∷ []) f)))
 
 clean-snoc : (f : List ℕ) (b : ℕ) → clean f ≡ true → eqb b 32 ≡ false → clean (f ++ (b ∷ [])) ≡ true
@@ -52,7 +52,7 @@ unfolding clean
 clean-snoc [] b e p = rw p
 clean-snoc (a ∷ f) b e p =
     by (eqb a 32)
-    (λ q. absurd (never_true (rw q at e)))
+    (λ q. absurd (never-true (rw q at e)))
     (λ q. rw q (clean-snoc f b (rw q at e) p))
 
 -- ---- digits
@@ -90,7 +90,7 @@ below-snoc base [] d e p = rw p
 below-snoc base (a ∷ ds) d e p =
     by (ltb a base)
     (λ q. rw q (below-snoc base ds d (rw q at e) p))
-    (λ q. absurd (never_true (rw q at e)))
+    (λ q. absurd (never-true (rw q at e)))
 
 module _ (base : ℕ) (some : 0 < base) (few : base ≤ 16) where
   last-digit : (n : ℕ) → digitOf (glyphOf (n % base)) ≡ n % base
@@ -140,7 +140,7 @@ places-some (suc k) n = by (ltb n 10) (λ p. rw p (omega arith)) (λ p. rw p (om
 decimal-back : (n : ℕ) → n ≤ most → decimalField (decimalText n) ≡ formed n
 unfolding decimalField decimalText
 decimal-back n h =
-    let k = places_of n in
+    let k = placesOf n in
     let small : n < 10 ^ (19 + 1) = omega arith in
     let is : spelt 10 0 (digits (numeral 10 k n)) ≡ n = numeral-spelt 10 (omega arith) (omega arith) k n (places-hold 19 n small) in
     let good : below 10 (digits (numeral 10 k n)) ≡ true = numeral-below 10 (omega arith) (omega arith) k n in
@@ -149,7 +149,7 @@ decimal-back n h =
 
 decimal-clean : (n : ℕ) → clean (decimalText n) ≡ true
 unfolding decimalText
-decimal-clean n = numeral-clean 10 (omega arith) (omega arith) (places_of n) n
+decimal-clean n = numeral-clean 10 (omega arith) (omega arith) (placesOf n) n
 
 value-clean : (x : Float) → clean (valueText x) ≡ true
 unfolding valueText
@@ -220,9 +220,9 @@ unfolding answerLine allOk
 answer-kind number k xs h a =
     rw (answer-readings number k xs h, lt-ltb 1 (suc (suc (length (map wordField (valueFields xs))))) (omega arith), values-ok xs a, values-are xs a)
 
-answer_back : (a : Answer) (k : Kind) → a.kind ≡ letter k → a.number ≤ most → AllF64 a.words → answerLine (answerText a) ≡ some a
+answer-back : (a : Answer) (k : Kind) → a.kind ≡ letter k → a.number ≤ most → AllF64 a.words → answerLine (answerText a) ≡ some a
 unfolding answerText
-answer_back a k e h w = rw e (answer-kind a.number k a.words h w)
+answer-back a k e h w = rw e (answer-kind a.number k a.words h w)
 
 ask-is : (q : Question) → askText q ≡ (97 ∷ 115 ∷ 107 ∷ 32 ∷ []) ++ (answerText (echoOf q) ++ (10 ∷ []))
 unfolding askText answerText
@@ -292,12 +292,12 @@ end-split r =
     ∙ ap (λ (l : List (List ℕ)). decimalText r.gevals ∷ l)
     (ap (λ (l : List ℕ). fieldsFrom (valueText r.f) l) (append-nil (valuesText r.x)) ∙ values-split (valueText r.f) r.x))))))
 
-end_back : (r : Result) → Printable r → endLine (endBefore r []) ≡ some r
+end-back : (r : Result) → Printable r → endLine (endBefore r []) ≡ some r
 unfolding endFields resultIn
-end_back r p =
+end-back r p =
     ap endFields (end-split r)
     ∙ rw (
-      same_self (101 ∷ 110 ∷ 100 ∷ []),
+      same-self (101 ∷ 110 ∷ 100 ∷ []),
       reason-back r.reason,
       flag-back r.converged,
       decimal-back r.iterations p.iterations,
@@ -309,9 +309,9 @@ end_back r p =
       of_bits-to_bits binary64 r.f p.value,
     )
 
-end_is : (r : Result) → endText r ≡ endBefore r [] ++ (10 ∷ [])
+end-is : (r : Result) → endText r ≡ endBefore r [] ++ (10 ∷ [])
 unfolding endText endBefore
-end_is r = simp (append_assoc)
+end-is r = simp (append_assoc)
 
 pub read-back-laws : ReadBackLaws
-read-back-laws = record { answer_back = answer_back; ask-is = ask-is; end_back = end_back; end_is = end_is }
+read-back-laws = record { answer-back = answer-back; ask-is = ask-is; end-back = end-back; end-is = end-is }

@@ -14,41 +14,41 @@ use Rattle.lines_field.specs.declared.Reading.{Reading}
 use Rattle.lines_reader.specs.declared.LineRead.{LineRead}
 use Rattle.lines_reader.specs.declared.Reader.{Reader}
 use Rattle.lines_field.specs.Shapes.{most, fieldAs}
-use Rattle.lines_reader.specs.Forms.{shapeAtOf, fieldsFrom, fields, readingsFrom, allOk, firsts, capped, empty, line_of}
+use Rattle.lines_reader.specs.Forms.{shapeAtOf, fieldsFrom, fields, readingsFrom, allOk, firsts, capped, empty, lineOf}
 use Rattle.lines_field.specs.Fields.{blankFieldOf, judgedOf, addedOf}
-use Rattle.lines_reader.specs.Reader.{oneMoreOf, keptOf, aloneOf, taken_of, startedOf, fedOf, fedAll, finishedOf, begunOf}
+use Rattle.lines_reader.specs.Reader.{oneMoreOf, keptOf, aloneOf, takenOf, startedOf, fedOf, fedAll, finishedOf, begunOf}
 use Rattle.lines_theory.specs.Laws.{ReaderLaws}
-use Rattle.lines_theory.proofs.Pieces.{addedAll, field_of, added-snoc, size-law, judged-law}
+use Rattle.lines_theory.proofs.Pieces.{addedAll, fieldOf, added-snoc, size-law, judged-law}
 
 -- ---- bytes to fields
 
 unfoldable takes : LineRead → List (List ℕ) → LineRead
 takes l [] = l
-takes l (f ∷ fs) = takes (taken_of l (field_of f)) fs
+takes l (f ∷ fs) = takes (takenOf l (fieldOf f)) fs
 
-at-space : (l : LineRead) (f : Field) (b : ℕ) → eqb b 32 ≡ true → fedOf (record { field = f; line = l }) b ≡ record { field = field_of []; line = taken_of l f }
+at-space : (l : LineRead) (f : Field) (b : ℕ) → eqb b 32 ≡ true → fedOf (record { field = f; line = l }) b ≡ record { field = fieldOf []; line = takenOf l f }
 unfolding fedOf addedAll
 at-space l f b p = rw p
 
-at_byte : (l : LineRead) (f : List ℕ) (b : ℕ) → eqb b 32 ≡ false → fedOf (record { field = field_of f; line = l }) b ≡ record { field = field_of (f ++ (b ∷ [])); line = l }
+at-byte : (l : LineRead) (f : List ℕ) (b : ℕ) → eqb b 32 ≡ false → fedOf (record { field = fieldOf f; line = l }) b ≡ record { field = fieldOf (f ++ (b ∷ [])); line = l }
 unfolding fedOf
-at_byte l f b p = rw (p, added-snoc blankFieldOf f b)
+at-byte l f b p = rw (p, added-snoc blankFieldOf f b)
 
-split : (l : LineRead) (f bs : List ℕ) → finishedOf (fedAll (record { field = field_of f; line = l }) bs) ≡ takes l (fieldsFrom f bs)
+split : (l : LineRead) (f bs : List ℕ) → finishedOf (fedAll (record { field = fieldOf f; line = l }) bs) ≡ takes l (fieldsFrom f bs)
 unfolding fedAll fieldsFrom takes
 split l f [] = refl
 split l f (b ∷ bs) =
     by (eqb b 32)
-    (λ p. ap (λ (r : Reader). finishedOf (fedAll r bs)) (at-space l (field_of f) b p) ∙ split (taken_of l (field_of f)) [] bs ∙ rw p)
-    (λ p. ap (λ (r : Reader). finishedOf (fedAll r bs)) (at_byte l f b p) ∙ split l (f ++ (b ∷ [])) bs ∙ rw p)
+    (λ p. ap (λ (r : Reader). finishedOf (fedAll r bs)) (at-space l (fieldOf f) b p) ∙ split (takenOf l (fieldOf f)) [] bs ∙ rw p)
+    (λ p. ap (λ (r : Reader). finishedOf (fedAll r bs)) (at-byte l f b p) ∙ split l (f ++ (b ∷ [])) bs ∙ rw p)
 
 and-true : (b : Bool) → b ≡ (b && true)
 and-true true = refl
 and-true false = refl
 
-and_assoc : (a b c : Bool) → ((a && b) && c) ≡ (a && (b && c))
-and_assoc true b c = refl
-and_assoc false b c = refl
+and-assoc : (a b c : Bool) → ((a && b) && c) ≡ (a && (b && c))
+and-assoc true b c = refl
+and-assoc false b c = refl
 
 -- ---- what the fields leave in the line
 
@@ -90,7 +90,7 @@ kind-capped form i =
     let h : most ≤ i = ltb-false i most p in
     ap (λ (n : ℕ). shapeAtOf form n) (rw p) ∙ far-kind form most i (omega arith) (omega arith))
 
-lone-capped : (i : ℕ) (f : List ℕ) → aloneOf (capped i) (field_of f).size ≡ aloneOf i (length f)
+lone-capped : (i : ℕ) (f : List ℕ) → aloneOf (capped i) (fieldOf f).size ≡ aloneOf i (length f)
 lone-capped i f =
     by (ltb i most)
     (λ p. rw (p, size-law f 0 (omega arith)))
@@ -101,13 +101,13 @@ lone-capped i f =
 ok-more : (vs : List Reading) (v : Reading) → (allOk vs && v.ok) ≡ allOk (vs ++ (v ∷ []))
 unfolding allOk
 ok-more [] v = and-true v.ok
-ok-more (w ∷ vs) v = and_assoc w.ok (allOk vs) v.ok ∙ ap (λ (b : Bool). w.ok && b) (ok-more vs v)
+ok-more (w ∷ vs) v = and-assoc w.ok (allOk vs) v.ok ∙ ap (λ (b : Bool). w.ok && b) (ok-more vs v)
 
-firsts_more : (k : ℕ) (vs : List Reading) (v : Reading) → length vs < k → set (firsts k vs) (length vs) v ≡ firsts k (vs ++ (v ∷ []))
+firsts-more : (k : ℕ) (vs : List Reading) (v : Reading) → length vs < k → set (firsts k vs) (length vs) v ≡ firsts k (vs ++ (v ∷ []))
 unfolding firsts
-firsts_more zero vs v h = absurd (omega arith)
-firsts_more (suc k) [] v h = refl
-firsts_more (suc k) (w ∷ vs) v h = ap (λ (l : List Reading). w ∷ l) (firsts_more k vs v (omega arith))
+firsts-more zero vs v h = absurd (omega arith)
+firsts-more (suc k) [] v h = refl
+firsts-more (suc k) (w ∷ vs) v h = ap (λ (l : List Reading). w ∷ l) (firsts-more k vs v (omega arith))
 
 firsts-full : (k : ℕ) (vs : List Reading) (v : Reading) → k ≤ length vs → firsts k vs ≡ firsts k (vs ++ (v ∷ []))
 unfolding firsts
@@ -121,7 +121,7 @@ kept-capped vs v =
     by (ltb (length vs) 20)
     (λ p.
     let h : length vs < 20 = ltb-true (length vs) 20 p in
-    rw (lt-ltb (length vs) most (omega arith), p) (firsts_more 20 vs v h))
+    rw (lt-ltb (length vs) most (omega arith), p) (firsts-more 20 vs v h))
     (λ p.
     let h : 20 ≤ length vs = ltb-false (length vs) 20 p in
     by (ltb (length vs) most)
@@ -131,11 +131,11 @@ kept-capped vs v =
 length-snoc : (vs : List Reading) (v : Reading) → length (vs ++ (v ∷ [])) ≡ length vs + 1
 length-snoc vs v = length-append vs (v ∷ [])
 
-take-one : (form : ℕ) (vs : List Reading) (e : Bool) (f : List ℕ) → taken_of (held form vs e) (field_of f) ≡ held form (vs ++ (fieldAs (shapeAtOf form (length vs)) f ∷ [])) (aloneOf (length vs) (length f))
-unfolding taken_of
+take-one : (form : ℕ) (vs : List Reading) (e : Bool) (f : List ℕ) → takenOf (held form vs e) (fieldOf f) ≡ held form (vs ++ (fieldAs (shapeAtOf form (length vs)) f ∷ [])) (aloneOf (length vs) (length f))
+unfolding takenOf
 take-one form vs e f =
     let v = fieldAs (shapeAtOf form (length vs)) f in
-    let is : judgedOf (shapeAtOf form (capped (length vs))) (field_of f) ≡ v = judged-law (shapeAtOf form (capped (length vs))) f ∙ ap (λ (k : ℕ). fieldAs k f) (kind-capped form (length vs)) in
+    let is : judgedOf (shapeAtOf form (capped (length vs))) (fieldOf f) ≡ v = judged-law (shapeAtOf form (capped (length vs))) f ∙ ap (λ (k : ℕ). fieldAs k f) (kind-capped form (length vs)) in
     rw (is, more-capped (length vs), lone-capped (length vs) f, kept-capped vs v, ok-more vs v, length-snoc vs v)
 
 -- whether the last of some fields, the first at i, stands alone and is empty
@@ -143,13 +143,13 @@ unfoldable emptied : ℕ → List (List ℕ) → Bool → Bool
 emptied i [] e = e
 emptied i (f ∷ fs) e = emptied (i + 1) fs (aloneOf i (length f))
 
-take_all : (form : ℕ) (vs : List Reading) (e : Bool) (fs : List (List ℕ)) → takes (held form vs e) fs ≡ held form (vs ++ readingsFrom form (length vs) fs) (emptied (length vs) fs e)
+take-all : (form : ℕ) (vs : List Reading) (e : Bool) (fs : List (List ℕ)) → takes (held form vs e) fs ≡ held form (vs ++ readingsFrom form (length vs) fs) (emptied (length vs) fs e)
 unfolding takes readingsFrom emptied
-take_all form vs e [] = rw (append-nil vs)
-take_all form vs e (f ∷ fs) =
+take-all form vs e [] = rw (append-nil vs)
+take-all form vs e (f ∷ fs) =
     let v = fieldAs (shapeAtOf form (length vs)) f in
     ap (λ (l : LineRead). takes l fs) (take-one form vs e f)
-    ∙ take_all form (vs ++ (v ∷ [])) (aloneOf (length vs) (length f)) fs
+    ∙ take-all form (vs ++ (v ∷ [])) (aloneOf (length vs) (length f)) fs
     ∙ rw (length-snoc vs v, append_assoc vs (v ∷ []) (readingsFrom form (length vs + 1) fs), add-one (length vs))
 
 -- ---- the empty line
@@ -180,25 +180,25 @@ empty-is f (b ∷ bs) e =
     (λ p. rw p (empty-later 1 [] bs (aloneOf 0 (length f)) (omega arith) ∙ sym (none-some f b bs)))
     (λ p. rw p (empty-is (f ++ (b ∷ [])) bs e ∙ rw (append_assoc f (b ∷ []) bs)))
 
-fresh-is : (form : ℕ) → startedOf form ≡ record { field = field_of []; line = held form [] false }
+fresh-is : (form : ℕ) → startedOf form ≡ record { field = fieldOf []; line = held form [] false }
 unfolding addedAll allOk firsts
 fresh-is form = refl
 
 -- any line, fed to the reader, is what `line_of` says
-read_is : (form : ℕ) (bs : List ℕ) → finishedOf (fedAll (startedOf form) bs) ≡ line_of form bs
-unfolding line_of
-read_is form bs =
+read-is : (form : ℕ) (bs : List ℕ) → finishedOf (fedAll (startedOf form) bs) ≡ lineOf form bs
+unfolding lineOf
+read-is form bs =
     ap (λ (r : Reader). finishedOf (fedAll r bs)) (fresh-is form)
     ∙ split (held form [] false) [] bs
-    ∙ take_all form [] false (fields bs)
+    ∙ take-all form [] false (fields bs)
     ∙ ap (λ (e : Bool). held form (readingsFrom form 0 (fields bs)) e) (empty-is [] bs false)
 
 -- ---- whether a line is begun
 
 -- one byte more, and a line that was begun
-begun_more : (r : Reader) (b : ℕ) → begunOf (fedOf r b) ≡ true
-unfolding fedOf begunOf taken_of addedOf
-begun_more r b =
+begun-more : (r : Reader) (b : ℕ) → begunOf (fedOf r b) ≡ true
+unfolding fedOf begunOf takenOf addedOf
+begun-more r b =
     by (eqb b 32)
     (λ p. rw p (by (ltb r.line.count most) (λ q. rw (q, ne_eqb (r.line.count + 1) 0 (λ e. omega arith))) (λ q. rw (q, ne_eqb r.line.count 0 (λ e. omega (arith, ltb-false r.line.count most q))))))
     (λ p. rw p (by (eqb r.line.count 0) (λ q. rw q (by (ltb r.field.size 17) (λ s. rw (s, ne_eqb (r.field.size + 1) 0 (λ e. omega arith))) (λ s. rw (s, ne_eqb r.field.size 0 (λ e. omega (arith, ltb-false r.field.size 17 s)))))) (λ q. rw q)))
@@ -206,12 +206,12 @@ begun_more r b =
 begun-on : (r : Reader) (bs : List ℕ) → begunOf r ≡ true → begunOf (fedAll r bs) ≡ true
 unfolding fedAll
 begun-on r [] e = e
-begun-on r (b ∷ bs) e = begun-on (fedOf r b) bs (begun_more r b)
+begun-on r (b ∷ bs) e = begun-on (fedOf r b) bs (begun-more r b)
 
 begun-is : (form : ℕ) (bs : List ℕ) → begunOf (fedAll (startedOf form) bs) ≡ not (empty bs)
 unfolding fedAll empty begunOf
 begun-is form [] = refl
-begun-is form (b ∷ bs) = begun-on (fedOf (startedOf form) b) bs (begun_more (startedOf form) b)
+begun-is form (b ∷ bs) = begun-on (fedOf (startedOf form) b) bs (begun-more (startedOf form) b)
 
 pub reader-laws : ReaderLaws
-reader-laws = record { read_is = read_is; begun-is = begun-is }
+reader-laws = record { read-is = read-is; begun-is = begun-is }

@@ -73,10 +73,10 @@ echoOf q = record { number = q.number; kind = letter q.kind; words = q.point }
 
 pub record ReadBackLaws : Type 0 where
   -- a printed answer is read back as it was, whatever its count of words
-  pub answer_back : (a : Answer) (k : Kind) → a.kind ≡ letter k → a.number ≤ most → AllF64 a.words → answerLine (answerText a) ≡ some a
+  pub answer-back : (a : Answer) (k : Kind) → a.kind ≡ letter k → a.number ≤ most → AllF64 a.words → answerLine (answerText a) ≡ some a
   -- a question's line is `ask`, an answer with its number, kind and point, and a line feed
   pub ask-is : (q : Question) → askText q ≡ (97 ∷ 115 ∷ 107 ∷ 32 ∷ []) ++ (answerText (echoOf q) ++ (10 ∷ []))
   -- a printed result is read back as it was
-  pub end_back : (r : Result) → Printable r → endLine (endBefore r []) ≡ some r
+  pub end-back : (r : Result) → Printable r → endLine (endBefore r []) ≡ some r
   -- and its line is that and a line feed
-  pub end_is : (r : Result) → endText r ≡ endBefore r [] ++ (10 ∷ [])
+  pub end-is : (r : Result) → endText r ≡ endBefore r [] ++ (10 ∷ [])

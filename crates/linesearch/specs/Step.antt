@@ -10,8 +10,8 @@ use Rattle.linesearch_trials.specs.declared.Fixed.{Fixed}
 use Rattle.linesearch_moves.specs.declared.Search.{Search}
 pub use Rattle.linesearch_trials.specs.Evaluations.{trialOf}
 unfoldable pub use Rattle.linesearch_trials.specs.Evaluations.{pointAtOf, nansOf, evaluatedOf, infeasibleOf}
-pub use Rattle.linesearch_moves.specs.Searches.{asksValue, asksGradient, asksDifference, found, failed, withBest, withEnds, withDiff, withValue, at_start}
-unfoldable pub use Rattle.linesearch_moves.specs.Searches.{precedingOf, risenOf, lowerOf, keepOf, failureOf, successOf, evalOf, zoomOf, bracket_of}
+pub use Rattle.linesearch_moves.specs.Searches.{asksValue, asksGradient, asksDifference, found, failed, withBest, withEnds, withDiff, withValue, atStart}
+unfoldable pub use Rattle.linesearch_moves.specs.Searches.{precedingOf, risenOf, lowerOf, keepOf, failureOf, successOf, evalOf, zoomOf, bracketOf}
 unfoldable pub use Rattle.linesearch_moves.specs.Bracketing.{bracketedOf, zoomedOf, decidedOf}
 
 unfoldable pub gradedOf : Fixed → Line → Search → List Float → Search
@@ -52,7 +52,7 @@ noTrial =
 
 -- "the step starts at min(initial_step, step_max)"
 unfoldable pub begunOf : Fixed → Line → Float → Search
-begunOf fixed l initial = bracket_of fixed l noTrial (minOf initial fixed.options.stepmax)
+begunOf fixed l initial = bracketOf fixed l noTrial (minOf initial fixed.options.stepmax)
 
 -- the point of the open question
 unfoldable pub probeOf : Fixed → Line → Search → List Float

@@ -8,7 +8,7 @@ use Rattle.linesearch_trials.specs.declared.Line.{Line}
 use Rattle.linesearch_trials.specs.declared.Fixed.{Fixed}
 use Rattle.linesearch_trials.specs.Trials.{two, armijoOf, curvatureOf}
 use Rattle.linesearch_moves.specs.declared.Search.{Search}
-use Rattle.linesearch_moves.specs.Searches.{withEnds, precedingOf, risenOf, keepOf, failureOf, successOf, zoomOf, bracket_of}
+use Rattle.linesearch_moves.specs.Searches.{withEnds, precedingOf, risenOf, keepOf, failureOf, successOf, zoomOf, bracketOf}
 
 -- Algorithm 3.5
 unfoldable pub bracketedOf : Fixed → Line → Search → Evaluation → Search
@@ -22,7 +22,7 @@ bracketedOf fixed l s t =
     (cond (not (finiteOf u.slope)) (zoomOf fixed l s u p)
     (cond (le plusZero u.slope) (zoomOf fixed l s u p)
     (cond (le o.stepmax s.step) (failureOf l s)
-    (bracket_of fixed l (withEnds s s.zooming true u s.hi) (minOf (two ⊗ s.step) o.stepmax)))))))
+    (bracketOf fixed l (withEnds s s.zooming true u s.hi) (minOf (two ⊗ s.step) o.stepmax)))))))
 
 -- Algorithm 3.6
 unfoldable pub zoomedOf : Fixed → Line → Search → Evaluation → Search

@@ -8,7 +8,7 @@ use Rattle.linesearch_trials.specs.declared.Evaluation.{Evaluation}
 use Rattle.linesearch_trials.specs.declared.Line.{Line}
 use Rattle.linesearch_trials.specs.declared.Fixed.{Fixed}
 use Rattle.linesearch_trials.specs.Cubic.{interpolateOf}
-use Rattle.linesearch_trials.specs.Trials.{start_of, narrowOf}
+use Rattle.linesearch_trials.specs.Trials.{startOf, narrowOf}
 use Rattle.linesearch_moves.specs.declared.Search.{Search}
 
 -- ---- what is asked for, or how the search ended
@@ -53,7 +53,7 @@ module _ (s : Search) where
 
 -- the trial before the one in hand, or the start of the line
 unfoldable pub precedingOf : Line → Search → Trial
-precedingOf l s = cond s.previous s.lo (start_of l)
+precedingOf l s = cond s.previous s.lo (startOf l)
 
 unfoldable pub risenOf : Search → Trial → Bool
 risenOf s t = cond (not s.previous) false (le s.lo.value t.value)
@@ -66,14 +66,14 @@ unfoldable pub keepOf : Search → Evaluation → Search
 keepOf s t = cond (not (finiteOf t.trial.value)) s (cond (lowerOf s t) (withBest s s.phase true t) s)
 
 -- the start of the line with its point and gradient
-abbrev pub at_start : Line → Evaluation
-at_start l = record { trial = start_of l; x = l.x; g = l.g }
+abbrev pub atStart : Line → Evaluation
+atStart l = record { trial = startOf l; x = l.x; g = l.g }
 
 -- 01: "the best finite trial below f0, first on ties, else step 0 and the start"
 unfoldable pub failureOf : Line → Search → Search
 failureOf l s =
-    cond (not s.kept) (withBest s failed s.kept (at_start l))
-    (cond (lt s.best.trial.value l.f) (withBest s failed s.kept s.best) (withBest s failed s.kept (at_start l)))
+    cond (not s.kept) (withBest s failed s.kept (atStart l))
+    (cond (lt s.best.trial.value l.f) (withBest s failed s.kept s.best) (withBest s failed s.kept (atStart l)))
 
 unfoldable pub successOf : Search → Evaluation → Search
 successOf s t = withBest s found s.kept t
@@ -90,5 +90,5 @@ zoomOf fixed l s lo hi =
     (cond (narrowOf lo hi) (failureOf l q)
     (evalOf q (interpolateOf lo hi)))
 
-unfoldable pub bracket_of : Fixed → Line → Search → Float → Search
-bracket_of fixed l s a = cond (leb fixed.options.evals s.trials) (failureOf l s) (evalOf s a)
+unfoldable pub bracketOf : Fixed → Line → Search → Float → Search
+bracketOf fixed l s a = cond (leb fixed.options.evals s.trials) (failureOf l s) (evalOf s a)

@@ -3,7 +3,7 @@
 mod bracketing;
 
 ghost use Rattle.std.specs.Prelude.{◌≡◌, ◌<◌};
-ghost use Rattle.linesearch_moves.specs.Searches.{precedingOf, risenOf, lowerOf, keepOf, failureOf, successOf, evalOf, zoomOf, bracket_of};
+ghost use Rattle.linesearch_moves.specs.Searches.{precedingOf, risenOf, lowerOf, keepOf, failureOf, successOf, evalOf, zoomOf, bracketOf};
 
 pub use bracketing::decided;
 use linesearch_trials::{Evaluation, Fixed, Line, Trial};
@@ -149,7 +149,7 @@ pub fn zoom(fixed: Fixed, l: Line, s: Search, lo: Trial, hi: Trial) -> Search
 
 // The next trial in doubling.
 pub fn bracket(fixed: Fixed, l: Line, s: Search, a: f64) -> Search
-    ensures { result ≡ bracket_of fixed l s a }
+    ensures { result ≡ bracketOf fixed l s a }
 {
     if fixed.options.evals <= s.trials {
         return failure(l, s);

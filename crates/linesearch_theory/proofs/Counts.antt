@@ -14,10 +14,10 @@ use Rattle.vector.specs.Lists.{plusScaled}
 use Rattle.protocol.specs.declared.Kind.{Kind}
 use Rattle.protocol.specs.declared.Kind.TheVariants.{Value, Gradient}
 use Rattle.protocol.specs.declared.WolfeOptions.{WolfeOptions}
-use Rattle.protocol.specs.Protocol.{read_of}
+use Rattle.protocol.specs.Protocol.{readOf}
 use Rattle.protocol.specs.Dialogue.{ofKind}
 use Rattle.protocol.specs.Ask.{Ask, finish, askValue, ◌>>=◌}
-use Rattle.protocol.specs.Bounds.{Costs, of_both}
+use Rattle.protocol.specs.Bounds.{Costs, ofBoth}
 use Rattle.protocol.proofs.Bounds.{costs-more, costs-bind}
 use Rattle.objective.specs.Algorithm.{slopeAt, differencesFrom, evalGradient}
 use Rattle.linesearch_trials.specs.declared.Evaluation.{Evaluation}
@@ -44,11 +44,11 @@ module _ (κ : Kind) (read : Float → Float) where
   )
 
   -- 2n values
-  pairs : (κ : Kind) (n k : ℕ) → k ≤ n → k * (ofKind κ Value + ofKind κ Value) ≤ of_both κ (2 * n) 0
+  pairs : (κ : Kind) (n k : ℕ) → k ≤ n → k * (ofKind κ Value + ofKind κ Value) ≤ ofBoth κ (2 * n) 0
   pairs Value n k h = omega arith
   pairs Gradient n k h = omega (arith, mul-zero k)
 
-  one : (κ : Kind) → ofKind κ Gradient + 0 ≤ of_both κ 0 1
+  one : (κ : Kind) → ofKind κ Gradient + 0 ≤ ofBoth κ 0 1
   one Value = omega arith
   one Gradient = omega arith
 
@@ -84,12 +84,12 @@ module _ (κ : Kind) (read : Float → Float) (gradients : Bool) (o : WolfeOptio
       (gradient-costs κ read gradients (pointAt read gradients o l a) n (point-short a)) (λ g h. point-short a))
   valued-costs a v false = point-short a
 
-  value-costs : (x : List Float) → Costs κ (ofKind κ Value) (askValue read_of x) (λ v. Unit {0})
+  value-costs : (x : List Float) → Costs κ (ofKind κ Value) (askValue readOf x) (λ v. Unit {0})
   value-costs x = (0, omega arith, λ w. tt)
 
   eval-costs : (a : Float) → Costs κ each (eval read gradients o l a) Short
   eval-costs a =
-      costs-bind κ (ofKind κ Value) (perGradient κ gradients n) (askValue read_of (pointAt read gradients o l a)) (λ v. valued read gradients o l a v (finiteOf v)) (λ v. Unit {0}) Short
+      costs-bind κ (ofKind κ Value) (perGradient κ gradients n) (askValue readOf (pointAt read gradients o l a)) (λ v. valued read gradients o l a v (finiteOf v)) (λ v. Unit {0}) Short
       (value-costs (pointAt read gradients o l a)) (λ v h. valued-costs a v (finiteOf v))
 
   abbrev Best : Option Evaluation → Type 0
@@ -119,7 +119,7 @@ module _ (κ : Kind) (read : Float → Float) (gradients : Bool) (o : WolfeOptio
     Step = λ a. Unit {0};
     Fine = λ c t. Short t;
     Best = λ c b. Best b;
-    at_zero = tt;
+    at-zero = tt;
     doubled = λ a h. tt;
     between = λ lo hi p q. tt;
     fine-step = λ c t h. tt;

@@ -16,7 +16,7 @@ use Rattle.linesearch_trials.specs.declared.Fixed.{Fixed}
 use Rattle.linesearch_moves.specs.declared.Search.{Search}
 use Rattle.linesearch.specs.Step.{asksValue, asksGradient, asksDifference, found, failed, withDiff, noTrial, begunOf, probeOf}
 use Rattle.linesearch_theory.specs.Algorithm.{bracket, search}
-use Rattle.linesearch_theory.specs.Follows.{loweredLine, kind_of, SearchShaped, toDo, outcome, answered, SearchFollows}
+use Rattle.linesearch_theory.specs.Follows.{loweredLine, kindOf, SearchShaped, toDo, outcome, answered, SearchFollows}
 use Rattle.linesearch_theory.proofs.FollowsMoves.{bracket-does}
 use Rattle.linesearch_theory.proofs.FollowsAnswers.{valuing, grading, differing}
 use Rattle.linesearch_theory.proofs.FollowsShape.{begun-asks, begun-shaped, told-shaped, told-gradient-shaped, begun-zeros, told-zeros, told-gradient-zeros, probe-zeros}
@@ -34,19 +34,19 @@ module _ (read : Float → Float) (fixed : Fixed) (l : Line) where
       ∙ bracket-does read fixed l noTrial zero-le false noTrial.lo noTrial.hi a
 
   next : (s : Search) → SearchShaped fixed s → s.phase ≤ asksDifference
-      → toDo read fixed l s ≡ query (kind_of s) (first fixed.n (probeOf fixed l s)) (λ w. toDo read fixed l (answered read fixed l s w))
+      → toDo read fixed l s ≡ query (kindOf s) (first fixed.n (probeOf fixed l s)) (λ w. toDo read fixed l (answered read fixed l s w))
   next s z i = go (eqb s.phase asksValue) refl (eqb s.phase asksGradient) refl
     where
       go : (b : Bool) → eqb s.phase asksValue ≡ b → (c : Bool) → eqb s.phase asksGradient ≡ c
-          → toDo read fixed l s ≡ query (kind_of s) (first fixed.n (probeOf fixed l s)) (λ w. toDo read fixed l (answered read fixed l s w))
+          → toDo read fixed l s ≡ query (kindOf s) (first fixed.n (probeOf fixed l s)) (λ w. toDo read fixed l (answered read fixed l s w))
       go true e c f = valuing read fixed l s s.phase (eqb-true s.phase asksValue e) z.trials
       go false e true f = grading read fixed l s s.phase (eqb-true s.phase asksGradient f) z.trials
       go false e false f =
           let last = third s.phase z.least i (eqb-false s.phase asksValue e) (eqb-false s.phase asksGradient f) in
           differing read fixed l s s.phase last z.trials z.diff (z.asked last)
 
-  ends_found : (s : Search) → s.phase ≡ found → toDo read fixed l s ≡ finish (outcome read fixed l true s)
-  ends_found s e = go s.phase e
+  ends-found : (s : Search) → s.phase ≡ found → toDo read fixed l s ≡ finish (outcome read fixed l true s)
+  ends-found s e = go s.phase e
     where
       go : (p : ℕ) → p ≡ found → toDo read fixed l (withDiff s p s.diff) ≡ finish (outcome read fixed l true s)
       go p h = rw h
@@ -63,7 +63,7 @@ module _ (read : Float → Float) (fixed : Fixed) (l : Line) where
         begins = begins;
         begun-asks = begun-asks fixed l;
         follows = next;
-        ends_found = ends_found;
+        ends-found = ends-found;
         ends-failed = ends-failed;
         begun-shaped = begun-shaped fixed l;
         told-shaped = told-shaped fixed l;

@@ -14,9 +14,9 @@ use Rattle.vector.specs.Points.{fromSliceOf}
 use Rattle.vector.specs.Lists.{first, dot}
 use Rattle.vector.proofs.First.{upto-same, point-laws, ties}
 use Rattle.protocol.specs.declared.Kind.TheVariants.{Value, Gradient}
-use Rattle.protocol.specs.Protocol.{read_of}
+use Rattle.protocol.specs.Protocol.{readOf}
 use Rattle.protocol.specs.Ask.{Ask, finish, query, ◌>>=◌}
-use Rattle.protocol.proofs.Texts.{bind_assoc}
+use Rattle.protocol.proofs.Texts.{bind-assoc}
 use Rattle.objective.specs.declared.Differences.{Differences}
 use Rattle.objective.specs.Algorithm as algorithm
 use Rattle.objective.specs.Step as step
@@ -28,7 +28,7 @@ use Rattle.linesearch_trials.specs.declared.Fixed.{Fixed}
 use Rattle.linesearch_moves.specs.declared.Search.{Search}
 use Rattle.linesearch.specs.Step.{asksValue, asksGradient, asksDifference, pointAtOf, nansOf, evaluatedOf, infeasibleOf, withDiff, withValue, decidedOf, gradedOf, differingOf, evalGradientOf, valuedOf, probeOf, toldOf, toldGradientOf}
 use Rattle.linesearch_theory.specs.Algorithm.{WolfeResult, pointAt, evaluated}
-use Rattle.linesearch_theory.specs.Follows.{lowered, kind_of, lined, after, toDo, answered}
+use Rattle.linesearch_theory.specs.Follows.{lowered, kindOf, lined, after, toDo, answered}
 use Rattle.linesearch_theory.proofs.FollowsMoves.{decided-does}
 
 -- n NaN are read as the NaN of each coordinate
@@ -105,7 +105,7 @@ module _ (read : Float → Float) (fixed : Fixed) (l : Line) where
           ≡ does (cond b (withDiff s asksGradient s.diff) (differingOf fixed l s (step.begunOf (pointAtOf fixed l s.step))))
       go true = rw long
       go false =
-          bind_assoc (algorithm.differences read (along s.step)) (λ g. finish (trial s.step s.value g)) (after read fixed l s)
+          bind-assoc (algorithm.differences read (along s.step)) (λ g. finish (trial s.step s.value g)) (after read fixed l s)
           ∙ ap (λ (x : List Float). algorithm.differences read x >>= (λ g. after read fixed l s (trial s.step s.value g))) (point-is s.step)
           ∙ ap (λ (m : Ask (List Float)). m >>= (λ g. after read fixed l s (trial s.step s.value g))) ((differences-follow read).begins n (pointAtOf fixed l s.step))
           ∙ differing-does s (step.begunOf (pointAtOf fixed l s.step)) h zero-le
@@ -129,7 +129,7 @@ module _ (read : Float → Float) (fixed : Fixed) (l : Line) where
 
   -- the text goes on as the record does
   abbrev Follows : Search → Type 0
-  Follows s = does s ≡ query (kind_of s) (first n (probeOf fixed l s)) (λ w. does (answered read fixed l s w))
+  Follows s = does s ≡ query (kindOf s) (first n (probeOf fixed l s)) (λ w. does (answered read fixed l s w))
 
   -- in the phase p
   abbrev phased : Search → ℕ → Search
@@ -137,7 +137,7 @@ module _ (read : Float → Float) (fixed : Fixed) (l : Line) where
 
   pub valuing : (s : Search) (p : ℕ) → p ≡ asksValue → Within s → Follows (phased s p)
   unfolding probeOf toldOf ◌>>=◌
-  valuing s p e h = rw e (ap₂ (query Value) (point-is s.step) (fun_ext (λ w. valued-does (phased s asksValue) (read_of (get_or w 0 nan)) h)))
+  valuing s p e h = rw e (ap₂ (query Value) (point-is s.step) (fun_ext (λ w. valued-does (phased s asksValue) (readOf (get_or w 0 nan)) h)))
 
   pub grading : (s : Search) (p : ℕ) → p ≡ asksGradient → Within s → Follows (phased s p)
   unfolding probeOf toldGradientOf

@@ -18,8 +18,8 @@ use Rattle.linesearch_trials.specs.declared.Line.{Line}
 use Rattle.linesearch_trials.specs.declared.Fixed.{Fixed}
 use Rattle.linesearch_moves.specs.declared.Search.{Search}
 use Rattle.linesearch_trials.specs.Cubic.{interpolateOf}
-use Rattle.linesearch_trials.specs.Trials.{two, start_of, armijoOf, curvatureOf, narrowOf}
-use Rattle.linesearch.specs.Step.{failed, withBest, withEnds, at_start, precedingOf, risenOf, lowerOf, keepOf, failureOf, successOf, evalOf, zoomOf, bracket_of, bracketedOf, zoomedOf, decidedOf}
+use Rattle.linesearch_trials.specs.Trials.{two, startOf, armijoOf, curvatureOf, narrowOf}
+use Rattle.linesearch.specs.Step.{failed, withBest, withEnds, atStart, precedingOf, risenOf, lowerOf, keepOf, failureOf, successOf, evalOf, zoomOf, bracketOf, bracketedOf, zoomedOf, decidedOf}
 use Rattle.linesearch_theory.specs.Algorithm.{WolfeResult, lower, keep, start, bestOrStart, failure, success, zoom, bracket}
 use Rattle.linesearch_theory.specs.Follows.{lowered, keptBest, previousTrial, lined, afterZoom, afterBracket, afterBy, after, toDo}
 
@@ -57,16 +57,16 @@ module _ (read : Float → Float) (fixed : Fixed) (l : Line) where
   -- ---- moves
 
   failure-does : (s : Search) → Within s → failure read gr o L (left s) (best s) ≡ does (failureOf l s)
-  unfolding failureOf start_of
+  unfolding failureOf startOf
   failure-does s h = ap (λ (c : ℕ). finish (record { success = false; at = bestOrStart read gr o L (best s); trials = c })) (counted s h) ∙ go s.kept
     where
       below : (c : Bool) → finish (record { success = false; at = cond c (lowered fixed.n s.best) (start read gr o L); trials = s.trials })
-          ≡ does (cond c (withBest s failed s.kept s.best) (withBest s failed s.kept (at_start l)))
+          ≡ does (cond c (withBest s failed s.kept s.best) (withBest s failed s.kept (atStart l)))
       below true = refl
       below false = refl
 
       go : (b : Bool) → finish (record { success = false; at = bestOrStart read gr o L (keptBest fixed.n b s.best); trials = s.trials })
-          ≡ does (cond (not b) (withBest s failed s.kept (at_start l)) (cond (lt s.best.trial.value l.f) (withBest s failed s.kept s.best) (withBest s failed s.kept (at_start l))))
+          ≡ does (cond (not b) (withBest s failed s.kept (atStart l)) (cond (lt s.best.trial.value l.f) (withBest s failed s.kept s.best) (withBest s failed s.kept (atStart l))))
       go false = refl
       go true = below (lt s.best.trial.value l.f)
 
@@ -75,11 +75,11 @@ module _ (read : Float → Float) (fixed : Fixed) (l : Line) where
   success-does s t h = ap (λ (c : ℕ). finish (record { success = true; at = lowered fixed.n t; trials = c })) (counted s h)
 
   module _ (s : Search) (h : Within s) where
-    none_left : leb o.evals s.trials ≡ true → left s ≡ 0
-    none_left e = omega (arith, leb-true o.evals s.trials e)
+    none-left : leb o.evals s.trials ≡ true → left s ≡ 0
+    none-left e = omega (arith, leb-true o.evals s.trials e)
 
-    one_left : leb o.evals s.trials ≡ false → left s ≡ suc (o.evals - suc s.trials)
-    one_left e = omega (arith, leb-false o.evals s.trials e)
+    one-left : leb o.evals s.trials ≡ false → left s ≡ suc (o.evals - suc s.trials)
+    one-left e = omega (arith, leb-false o.evals s.trials e)
 
     zoom-does : (lo hi : Trial) → zoom read gr o L (left s) lo hi (best s) ≡ does (zoomOf fixed l s lo hi)
     unfolding zoomOf evalOf zoom
@@ -89,16 +89,16 @@ module _ (read : Float → Float) (fixed : Fixed) (l : Line) where
             ≡ does (cond b (failureOf l (withEnds s true s.previous lo hi))
             (cond (narrowOf lo hi) (failureOf l (withEnds s true s.previous lo hi)) (evalOf (withEnds s true s.previous lo hi) (interpolateOf lo hi))))
         go true e =
-            ap (λ (k : ℕ). zoom read gr o L k lo hi (best s)) (none_left e)
-            ∙ ap (λ (k : ℕ). failure read gr o L k (best s)) (sym (none_left e))
+            ap (λ (k : ℕ). zoom read gr o L k lo hi (best s)) (none-left e)
+            ∙ ap (λ (k : ℕ). failure read gr o L k (best s)) (sym (none-left e))
             ∙ failure-does (withEnds s true s.previous lo hi) h
         go false e =
-            ap (λ (k : ℕ). zoom read gr o L k lo hi (best s)) (one_left e)
-            ∙ choose does (narrowOf lo hi) _ _ _ _ (ap (λ (k : ℕ). failure read gr o L k (best s)) (sym (one_left e)) ∙ failure-does (withEnds s true s.previous lo hi) h)
+            ap (λ (k : ℕ). zoom read gr o L k lo hi (best s)) (one-left e)
+            ∙ choose does (narrowOf lo hi) _ _ _ _ (ap (λ (k : ℕ). failure read gr o L k (best s)) (sym (one-left e)) ∙ failure-does (withEnds s true s.previous lo hi) h)
             (rw (add-one s.trials))
 
-    pub bracket-does : (b : Bool) (lo hi : Trial) (a : Float) → bracket read gr o L (left s) a (previousTrial b lo) (best s) ≡ does (bracket_of fixed l (withEnds s false b lo hi) a)
-    unfolding bracket_of evalOf bracket
+    pub bracket-does : (b : Bool) (lo hi : Trial) (a : Float) → bracket read gr o L (left s) a (previousTrial b lo) (best s) ≡ does (bracketOf fixed l (withEnds s false b lo hi) a)
+    unfolding bracketOf evalOf bracket
     bracket-does b lo hi a = go (leb o.evals s.trials) refl
       where
         next : (b : Bool) → bracket read gr o L (suc (o.evals - suc s.trials)) a (previousTrial b lo) (best s) ≡ does (evalOf (withEnds s false b lo hi) a)
@@ -108,10 +108,10 @@ module _ (read : Float → Float) (fixed : Fixed) (l : Line) where
         go : (c : Bool) → leb o.evals s.trials ≡ c → bracket read gr o L (left s) a (previousTrial b lo) (best s)
             ≡ does (cond c (failureOf l (withEnds s false b lo hi)) (evalOf (withEnds s false b lo hi) a))
         go true e =
-            ap (λ (k : ℕ). bracket read gr o L k a (previousTrial b lo) (best s)) (none_left e)
-            ∙ ap (λ (k : ℕ). failure read gr o L k (best s)) (sym (none_left e))
+            ap (λ (k : ℕ). bracket read gr o L k a (previousTrial b lo) (best s)) (none-left e)
+            ∙ ap (λ (k : ℕ). failure read gr o L k (best s)) (sym (none-left e))
             ∙ failure-does (withEnds s false b lo hi) h
-        go false e = ap (λ (k : ℕ). bracket read gr o L k a (previousTrial b lo) (best s)) (one_left e) ∙ next b
+        go false e = ap (λ (k : ℕ). bracket read gr o L k a (previousTrial b lo) (best s)) (one-left e) ∙ next b
 
   -- ---- the best so far
 
@@ -183,7 +183,7 @@ module _ (read : Float → Float) (fixed : Fixed) (l : Line) where
 
   bracketed-does : (s : Search) (t : Evaluation) → Within s
       → Does (afterBracket read fixed l (left s) s.step s.previous s.lo (best s) (lowered fixed.n t)) (bracketedOf fixed l (kept-now (withEnds s false s.previous s.lo s.hi) t) t)
-  unfolding bracketedOf precedingOf risenOf start_of armijoOf curvatureOf lowerOf
+  unfolding bracketedOf precedingOf risenOf startOf armijoOf curvatureOf lowerOf
   bracketed-does s t h =
       let q = kept-now (withEnds s false s.previous s.lo s.hi) t in
       let u = t.trial in

@@ -25,7 +25,7 @@ use Rattle.linesearch_trials.specs.declared.Fixed.{Fixed}
 use Rattle.linesearch_moves.specs.declared.Search.{Search}
 use Rattle.linesearch_trials.specs.Cubic.{interpolateOf}
 use Rattle.linesearch_trials.specs.Trials.{two, armijoOf, curvatureOf, narrowOf}
-use Rattle.linesearch.specs.Step.{asksValue, asksGradient, asksDifference, found, failed, pointAtOf, nansOf, evaluatedOf, infeasibleOf, withBest, withEnds, withDiff, withValue, precedingOf, risenOf, lowerOf, keepOf, at_start, failureOf, successOf, evalOf, zoomOf, bracket_of, bracketedOf, zoomedOf, decidedOf, gradedOf, differingOf, evalGradientOf, valuedOf, zeros, noTrial, begunOf, probeOf, toldOf, toldGradientOf}
+use Rattle.linesearch.specs.Step.{asksValue, asksGradient, asksDifference, found, failed, pointAtOf, nansOf, evaluatedOf, infeasibleOf, withBest, withEnds, withDiff, withValue, precedingOf, risenOf, lowerOf, keepOf, atStart, failureOf, successOf, evalOf, zoomOf, bracketOf, bracketedOf, zoomedOf, decidedOf, gradedOf, differingOf, evalGradientOf, valuedOf, zeros, noTrial, begunOf, probeOf, toldOf, toldGradientOf}
 use Rattle.linesearch_theory.specs.Follows.{LineHas, SearchShaped, SearchZeroPast}
 
 -- what lasts, where P is of the best trial's arrays and D of the differences
@@ -41,11 +41,11 @@ record Lasting (fixed : Fixed) (P : List Float → Type 0) (D : Differences → 
 -- an array that is made anew has P, and so have those of the line; differences that are begun or told have D, and their gradient P
 record Makes (fixed : Fixed) (l : Line) (P : List Float → Type 0) (D : Differences → Type 0) : Type 0 where
   line : LineHas P l
-  zeros_of : P zeros
+  zeros-of : P zeros
   point-of : (a : Float) → P (pointAtOf fixed l a)
   nans-of : P (nansOf fixed.n)
   begun-of : (x : List Float) → P x → D (step.begunOf x)
-  told_of : (e : Differences) (w : Float) → e.at < fixed.n → D e → D (step.toldOf e w)
+  told-of : (e : Differences) (w : Float) → e.at < fixed.n → D e → D (step.toldOf e w)
   gradient-of : (e : Differences) → D e → P e.g
 
 module _ (fixed : Fixed) (l : Line) (P : List Float → Type 0) (D : Differences → Type 0) (makes : Makes fixed l P D) where
@@ -60,8 +60,8 @@ module _ (fixed : Fixed) (l : Line) (P : List Float → Type 0) (D : Differences
   best-lasts : (s : Search) (p : ℕ) (kept : Bool) (t : Evaluation) → asksValue ≤ p → p ≤ failed → (p ≡ asksDifference → s.diff.at < fixed.n) → P t.x → P t.g → Last s → Last (withBest s p kept t)
   best-lasts s p kept t i j a x g h = record { least = i; most = j; trials = h.trials; point = x; gradient = g; diff = h.diff; asked = a }
 
-  ends_last : (s : Search) (z b : Bool) (lo hi : Trial) → Last s → Last (withEnds s z b lo hi)
-  ends_last s z b lo hi h = record { least = h.least; most = h.most; trials = h.trials; point = h.point; gradient = h.gradient; diff = h.diff; asked = h.asked }
+  ends-last : (s : Search) (z b : Bool) (lo hi : Trial) → Last s → Last (withEnds s z b lo hi)
+  ends-last s z b lo hi h = record { least = h.least; most = h.most; trials = h.trials; point = h.point; gradient = h.gradient; diff = h.diff; asked = h.asked }
 
   ended : (s : Search) (p : ℕ) (t : Evaluation) → found ≤ p → p ≤ failed → P t.x → P t.g → Last s → Last (withBest s p s.kept t)
   ended s p t i j x g h = best-lasts s p s.kept t (omega arith) j (λ e. absurd (omega arith)) x g h
@@ -69,7 +69,7 @@ module _ (fixed : Fixed) (l : Line) (P : List Float → Type 0) (D : Differences
   failure-lasts : (s : Search) → Last s → Last (failureOf l s)
   unfolding failureOf
   failure-lasts s h =
-      let start = ended s failed (at_start l) (omega arith) (omega arith) makes.line.point makes.line.gradient h in
+      let start = ended s failed (atStart l) (omega arith) (omega arith) makes.line.point makes.line.gradient h in
       either (not s.kept) _ _ start (either (lt s.best.trial.value l.f) _ _ (ended s failed s.best (omega arith) (omega arith) h.point h.gradient h) start)
 
   eval-lasts : (s : Search) (a : Float) → leb fixed.options.evals s.trials ≡ false → Last s → Last (evalOf s a)
@@ -90,15 +90,15 @@ module _ (fixed : Fixed) (l : Line) (P : List Float → Type 0) (D : Differences
   zoom-lasts s lo hi h = go (leb fixed.options.evals s.trials) refl
     where
       k : Last (withEnds s true s.previous lo hi)
-      k = ends_last s true s.previous lo hi h
+      k = ends-last s true s.previous lo hi h
 
       go : (b : Bool) → leb fixed.options.evals s.trials ≡ b
           → Last (cond b (failureOf l (withEnds s true s.previous lo hi)) (cond (narrowOf lo hi) (failureOf l (withEnds s true s.previous lo hi)) (evalOf (withEnds s true s.previous lo hi) (interpolateOf lo hi))))
       go true e = failure-lasts (withEnds s true s.previous lo hi) k
       go false e = either (narrowOf lo hi) _ _ (failure-lasts (withEnds s true s.previous lo hi) k) (eval-lasts (withEnds s true s.previous lo hi) (interpolateOf lo hi) e k)
 
-  bracket-lasts : (s : Search) (a : Float) → Last s → Last (bracket_of fixed l s a)
-  unfolding bracket_of
+  bracket-lasts : (s : Search) (a : Float) → Last s → Last (bracketOf fixed l s a)
+  unfolding bracketOf
   bracket-lasts s a h = go (leb fixed.options.evals s.trials) refl
     where
       go : (b : Bool) → leb fixed.options.evals s.trials ≡ b → Last (cond b (failureOf l s) (evalOf s a))
@@ -127,7 +127,7 @@ module _ (fixed : Fixed) (l : Line) (P : List Float → Type 0) (D : Differences
       (either (not (finiteOf u.slope)) _ _ (zoom-lasts s u p h)
       (either (le plusZero u.slope) _ _ (zoom-lasts s u p h)
       (either (le o.stepmax s.step) _ _ (failure-lasts s h)
-      (bracket-lasts (withEnds s s.zooming true u s.hi) (minOf (two ⊗ s.step) o.stepmax) (ends_last s s.zooming true u s.hi h)))))))
+      (bracket-lasts (withEnds s s.zooming true u s.hi) (minOf (two ⊗ s.step) o.stepmax) (ends-last s s.zooming true u s.hi h)))))))
 
   zoomed-lasts : (s : Search) (t : Evaluation) → P t.x → P t.g → Last s → Last (zoomedOf fixed l s t)
   unfolding zoomedOf
@@ -189,9 +189,9 @@ module _ (fixed : Fixed) (l : Line) (P : List Float → Type 0) (D : Differences
         least = omega arith;
         most = omega arith;
         trials = zero-le;
-        point = makes.zeros_of;
-        gradient = makes.zeros_of;
-        diff = makes.begun-of zeros makes.zeros_of;
+        point = makes.zeros-of;
+        gradient = makes.zeros-of;
+        diff = makes.begun-of zeros makes.zeros-of;
         asked = λ e. absurd (omega arith);
       })
 
@@ -200,7 +200,7 @@ module _ (fixed : Fixed) (l : Line) (P : List Float → Type 0) (D : Differences
   told-lasts s v w h = either (eqb s.phase asksValue) _ _ (valued-lasts s v h) (either (not (eqb s.phase asksDifference)) _ _ h (go (ltb s.diff.at fixed.n) refl))
     where
       go : (b : Bool) → ltb s.diff.at fixed.n ≡ b → Last (cond b (differingOf fixed l s (step.toldOf s.diff w)) s)
-      go true i = differing-lasts s (step.toldOf s.diff w) (makes.told_of s.diff w (ltb-true s.diff.at fixed.n i) h.diff) h
+      go true i = differing-lasts s (step.toldOf s.diff w) (makes.told-of s.diff w (ltb-true s.diff.at fixed.n i) h.diff) h
       go false i = h
 
   told-gradient-lasts : (s : Search) (g : List Float) → P g → Last s → Last (toldGradientOf fixed l s g)
@@ -209,7 +209,7 @@ module _ (fixed : Fixed) (l : Line) (P : List Float → Type 0) (D : Differences
 
 module _ (fixed : Fixed) (l : Line) where
   pub begun-asks : (initial : Float) → 0 < fixed.options.evals → (begunOf fixed l initial).phase ≡ asksValue
-  unfolding begunOf bracket_of evalOf
+  unfolding begunOf bracketOf evalOf
   begun-asks initial h = rw (lt-leb _ _ h)
 
   -- ---- sizes
@@ -225,11 +225,11 @@ module _ (fixed : Fixed) (l : Line) where
   sizes small h =
       record {
         line = h;
-        zeros_of = refl;
+        zeros-of = refl;
         point-of = λ a. point-laws.width (λ i. at l.x i ⊕ a ⊗ at l.d i) fixed.n small;
         nans-of = point-laws.width (λ i. nan) fixed.n small;
-        begun-of = λ x e. (differences-follow (λ v. v)).begun_sized fixed.n x small e;
-        told_of = λ e w i z. (differences-follow (λ v. v)).told-sized fixed.n e w z i;
+        begun-of = λ x e. (differences-follow (λ v. v)).begun-sized fixed.n x small e;
+        told-of = λ e w i z. (differences-follow (λ v. v)).told-sized fixed.n e w z i;
         gradient-of = λ e z. z.gradient16;
       }
 
@@ -257,11 +257,11 @@ module _ (fixed : Fixed) (l : Line) where
   zeros-made h =
       record {
         line = h;
-        zeros_of = λ k i j. get_or-replicate 16 k plusZero nan j;
+        zeros-of = λ k i j. get_or-replicate 16 k plusZero nan j;
         point-of = λ a. point-laws.past (λ i. at l.x i ⊕ a ⊗ at l.d i) fixed.n;
         nans-of = point-laws.past (λ i. nan) fixed.n;
         begun-of = λ x e. (differences-follow (λ v. v)).begun-zeros fixed.n x e;
-        told_of = λ e w i z. (differences-follow (λ v. v)).told-zeros fixed.n e w i z;
+        told-of = λ e w i z. (differences-follow (λ v. v)).told-zeros fixed.n e w i z;
         gradient-of = λ e z. z.gradient;
       }
 

@@ -10,7 +10,7 @@ use lib.Ieee.{Float, nan, inf, fin, lt, le}
 use Rattle.float.specs.Binary64.{plusZero, ◌⊗◌}
 use Rattle.float.specs.Values.{Finite, finiteOf, minOf}
 use Rattle.float.proofs.Order.{lt→le, le→not-above, not-lt→le}
-use Rattle.float.proofs.Signs.{finite_number, armijo}
+use Rattle.float.proofs.Signs.{finite-number, armijo}
 use Rattle.float.proofs.Tests.{by}
 use Rattle.protocol.specs.declared.WolfeOptions.{WolfeOptions}
 use Rattle.protocol.specs.Dialogue.{Exchange, F64s, Told}
@@ -21,7 +21,7 @@ use Rattle.protocol.proofs.Texts.{wp-map, wp-grows}
 use Rattle.protocol.proofs.Replies.{not-above-self}
 use Rattle.linesearch_trials.specs.declared.Evaluation.{Evaluation}
 use Rattle.linesearch_trials.specs.declared.Line.{Line}
-use Rattle.linesearch_trials.specs.Trials.{two, start_of, armijoOf}
+use Rattle.linesearch_trials.specs.Trials.{two, startOf, armijoOf}
 use Rattle.linesearch_theory.specs.Algorithm.{WolfeResult, start, bracket, search}
 use Rattle.linesearch_theory.specs.Laws.{Heard, EvaluationTold, Descending, Made, ResultLaws, StepLaws, SearchLaws}
 use Rattle.linesearch_theory.proofs.Steps.{Plus, plus-le, positive-plus, min-plus, twice-plus, interpolate-plus}
@@ -30,8 +30,8 @@ use Rattle.linesearch_theory.proofs.LawsResults.{Result, results}
 use Rattle.linesearch_theory.proofs.LawsTrials.{End, trials-made}
 use Rattle.linesearch_theory.proofs.LawsAsked.{asked}
 
-not_infinite : (v f : Float) → v ≡ inf false → Finite f → T (le v f) → ⊥
-not_infinite v f e i h = go f i (subst (λ (z : Float). T (le z f)) e h)
+not-infinite : (v f : Float) → v ≡ inf false → Finite f → T (le v f) → ⊥
+not-infinite v f e i h = go f i (subst (λ (z : Float). T (le z f)) e h)
   where
     go : (f : Float) → Finite f → T (le (inf false) f) → ⊥
     go nan i h = unfold finiteOf in i
@@ -88,7 +88,7 @@ module _ (read : Float → Float) (gradients : Bool) (o : WolfeOptions) (l : Lin
     stepped = results read gradients o l Plus tt doubled interpolate-plus initial es first-plus
 
     at-start : Plus begin.trial.step
-    unfolding start_of
+    unfolding startOf
     at-start = tt
 
     step-plus : (fs : List Exchange) (r : WolfeResult) → Stepped fs r → Plus r.at.trial.step
@@ -104,17 +104,17 @@ module _ (read : Float → Float) (gradients : Bool) (o : WolfeOptions) (l : Lin
     meets d fs t p (inl h) i =
         (h, armijo t.trial.value l.f o.c1 t.trial.step l.slope d.finite d.f64 d.c1 (le→not-above plusZero t.trial.step (plus-le t.trial.step p)) d.slope i)
     meets d fs t p (inr e) i =
-        absurd (not_infinite t.trial.value l.f e d.finite
+        absurd (not-infinite t.trial.value l.f e d.finite
         (armijo t.trial.value l.f o.c1 t.trial.step l.slope d.finite d.f64 d.c1 (le→not-above plusZero t.trial.step (plus-le t.trial.step p)) d.slope i))
 
     succeeds : Descending o l → (fs : List Exchange) (r : WolfeResult) → Stepped fs r → r.success ≡ true → Lower fs r.at
     succeeds d fs r h e = let k = h.succeeded e in meets d fs r.at k.0.0 k.0.1.heard k.1
 
     le-self : Finite l.f → T (le l.f l.f)
-    le-self i = not-lt→le l.f l.f (finite_number l.f i) (finite_number l.f i) (not-above-self l.f)
+    le-self i = not-lt→le l.f l.f (finite-number l.f i) (finite-number l.f i) (not-above-self l.f)
 
     starts : Descending o l → Told es l.x l.f → (fs : List Exchange) → Grows es fs → Lower fs begin
-    unfolding start_of
+    unfolding startOf
     starts d t fs g = ((d.finite, d.f64, g l.x l.f t), le-self d.finite)
 
     ends : Descending o l → Told es l.x l.f → (fs : List Exchange) (r : WolfeResult) → Grows es fs → Stepped fs r → Lower fs r.at

@@ -13,7 +13,7 @@ use Rattle.vector.specs.Loops.{at}
 use Rattle.vector.specs.Lists.{dot, plusScaled}
 use Rattle.protocol.specs.declared.Kind.{Kind}
 use Rattle.protocol.specs.declared.WolfeOptions.{WolfeOptions}
-use Rattle.protocol.specs.Protocol.{read_of}
+use Rattle.protocol.specs.Protocol.{readOf}
 use Rattle.protocol.specs.Ask.{Ask, finish, query, ◌>>=◌}
 use Rattle.objective.specs.Algorithm.{slopeAt, differencesFrom, evalGradient}
 use Rattle.linesearch_trials.specs.declared.Evaluation.{Evaluation}
@@ -25,10 +25,10 @@ use Rattle.linesearch_theory.proofs.Steps.{Plus, plus-le, positive-plus, min-plu
 use Rattle.linesearch_theory.proofs.LawsInduction.{Invariant, search-holds}
 
 -- a text that makes something of what m gives, and then f
-puts_then : {A B C : Type 0} (P : Kind → List Float → Type 0) (m : Ask A) (g : A → B) (f : B → Ask C) → Puts P m → ((x : A) → Puts P (f (g x))) → Puts P ((m >>= λ x. finish (g x)) >>= f)
+puts-then : {A B C : Type 0} (P : Kind → List Float → Type 0) (m : Ask A) (g : A → B) (f : B → Ask C) → Puts P m → ((x : A) → Puts P (f (g x))) → Puts P ((m >>= λ x. finish (g x)) >>= f)
 unfolding ◌>>=◌
-puts_then P (finish x) g f h k = k x
-puts_then P (query j y c) g f h k = (h.0, λ w. puts_then P (c w) g f (h.1 w) k)
+puts-then P (finish x) g f h k = k x
+puts-then P (query j y c) g f h k = (h.0, λ w. puts-then P (c w) g f (h.1 w) k)
 
 module _ (read : Float → Float) (l : Line) (a : Float) (p : Plus a) where
   abbrev y : List Float
@@ -55,14 +55,14 @@ module _ (read : Float → Float) (gradients : Bool) (o : WolfeOptions) (l : Lin
 
   eval-puts : (a : Float) (f : Evaluation → Ask WolfeResult) → Plus a → ((v s : Float) (g : List Float) → Puts P (f (evaluated read gradients o l a v g s))) → Puts P (eval read gradients o l a >>= f)
   unfolding ◌>>=◌
-  eval-puts a f p h = ((a, plus-le a p, inl refl), λ w. go (read_of (get_or w 0 nan)) (finiteOf (read_of (get_or w 0 nan))))
+  eval-puts a f p h = ((a, plus-le a p, inl refl), λ w. go (readOf (get_or w 0 nan)) (finiteOf (readOf (get_or w 0 nan))))
     where
       x : List Float
       x = plusScaled l.x a l.d
 
       go : (v : Float) (b : Bool)
           → Puts P (cond b (evalGradient read gradients x >>= λ g. finish (evaluated read gradients o l a v g (dot g l.d))) (finish (evaluated read gradients o l a v (map (λ z. nan) x) nan)) >>= f)
-      go v true = puts_then P (evalGradient read gradients x) (λ g. evaluated read gradients o l a v g (dot g l.d)) f (gradient-puts read l a p gradients) (λ g. h v (dot g l.d) g)
+      go v true = puts-then P (evalGradient read gradients x) (λ g. evaluated read gradients o l a v g (dot g l.d)) f (gradient-puts read l a p gradients) (λ g. h v (dot g l.d) g)
       go v false = h v nan (map (λ z. nan) x)
 
   invariant : Plus o.stepmax → Invariant read gradients o l
@@ -72,7 +72,7 @@ module _ (read : Float → Float) (gradients : Bool) (o : WolfeOptions) (l : Lin
     Step = Plus;
     Fine = λ c t. Plus t.trial.step;
     Best = λ c b. Unit {0};
-    at_zero = tt;
+    at-zero = tt;
     doubled = λ a p. min-plus (two ⊗ a) o.stepmax (twice-plus a p) m;
     between = interpolate-plus;
     fine-step = λ c t h. h;

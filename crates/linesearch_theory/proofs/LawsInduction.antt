@@ -6,7 +6,7 @@ use mathlib.Core.Bool.{Bool, true, false, not, ◌||◌, cond, true≢false}
 use lib.Ieee.{Float, lt, le}
 use Rattle.float.specs.Binary64.{◌⊖◌, ◌⊗◌, plusZero}
 use Rattle.float.specs.Values.{Finite, finiteOf, minOf}
-use Rattle.float.proofs.Tests.{by_cond}
+use Rattle.float.proofs.Tests.{by-cond}
 use Rattle.protocol.specs.declared.WolfeOptions.{WolfeOptions}
 use Rattle.protocol.specs.Ask.{Ask, ◌>>=◌}
 use Rattle.protocol.proofs.Replies.{true-T}
@@ -14,7 +14,7 @@ use Rattle.linesearch_trials.specs.declared.Trial.{Trial}
 use Rattle.linesearch_trials.specs.declared.Evaluation.{Evaluation}
 use Rattle.linesearch_trials.specs.declared.Line.{Line}
 use Rattle.linesearch_trials.specs.Cubic.{interpolateOf}
-use Rattle.linesearch_trials.specs.Trials.{two, start_of, armijoOf, curvatureOf, narrowOf}
+use Rattle.linesearch_trials.specs.Trials.{two, startOf, armijoOf, curvatureOf, narrowOf}
 use Rattle.linesearch_theory.specs.Algorithm.{WolfeResult, eval, lower, keep, start, bestOrStart, failure, success, zoom, before, risen, bracket, search}
 
 module _ (read : Float → Float) (gradients : Bool) (o : WolfeOptions) (l : Line) where
@@ -26,7 +26,7 @@ module _ (read : Float → Float) (gradients : Bool) (o : WolfeOptions) (l : Lin
     pub Step : Float → Type 0
     pub Fine : State → Evaluation → Type 0
     pub Best : State → Option Evaluation → Type 0
-    pub at_zero : Step plusZero
+    pub at-zero : Step plusZero
     pub doubled : (a : Float) → Step a → Step (minOf (two ⊗ a) o.stepmax)
     pub between : (lo hi : Trial) → Step lo.step → Step hi.step → Step (interpolateOf lo hi)
     pub fine-step : (c : State) (t : Evaluation) → Fine c t → Step t.trial.step
@@ -64,23 +64,23 @@ module _ (read : Float → Float) (gradients : Bool) (o : WolfeOptions) (l : Lin
     unfolding zoom
     zoom-holds zero c lo hi best p q b = I.fails zero c best b
     zoom-holds (suc k) c lo hi best p q b =
-        by_cond (I.Then (suc k) c) (narrowOf lo hi) _ _ (λ e. I.fails (suc k) c best b)
+        by-cond (I.Then (suc k) c) (narrowOf lo hi) _ _ (λ e. I.fails (suc k) c best b)
         (λ e. I.tries k c (interpolateOf lo hi) best _ (I.between lo hi p q) b
         (λ d t h kept.
         let r = I.fine-step d t h in
         let best' = keep read gradients o l t best in
-        by_cond (I.Then k d) (not (armijoOf o l t.trial) || le lo.value t.trial.value) _ _ (λ i. zoom-holds k d lo t.trial best' p r kept)
-        (λ i. by_cond (I.Then k d) (curvatureOf o l t.trial) _ _ (I.succeeds k d t h (or-false (armijoOf o l t.trial) (le lo.value t.trial.value) i))
-        (λ j. by_cond (I.Then k d) (not (finiteOf t.trial.slope)) _ _ (λ m. zoom-holds k d lo t.trial best' p r kept)
-        (λ m. by_cond (I.Then k d) (le plusZero (t.trial.slope ⊗ (hi.step ⊖ lo.step))) _ _ (λ n. zoom-holds k d t.trial lo best' r p kept) (λ n. zoom-holds k d t.trial hi best' r q kept))))))
+        by-cond (I.Then k d) (not (armijoOf o l t.trial) || le lo.value t.trial.value) _ _ (λ i. zoom-holds k d lo t.trial best' p r kept)
+        (λ i. by-cond (I.Then k d) (curvatureOf o l t.trial) _ _ (I.succeeds k d t h (or-false (armijoOf o l t.trial) (le lo.value t.trial.value) i))
+        (λ j. by-cond (I.Then k d) (not (finiteOf t.trial.slope)) _ _ (λ m. zoom-holds k d lo t.trial best' p r kept)
+        (λ m. by-cond (I.Then k d) (le plusZero (t.trial.slope ⊗ (hi.step ⊖ lo.step))) _ _ (λ n. zoom-holds k d t.trial lo best' r p kept) (λ n. zoom-holds k d t.trial hi best' r q kept))))))
 
     abbrev PrevStep : Option Trial → Type 0
     PrevStep none = Unit {0}
     PrevStep (some p) = I.Step p.step
 
     before-step : (prev : Option Trial) → PrevStep prev → I.Step (before read gradients o l prev).step
-    unfolding start_of
-    before-step none h = I.at_zero
+    unfolding startOf
+    before-step none h = I.at-zero
     before-step (some p) h = h
 
     bracket-holds : (k : ℕ) (c : I.State) (a : Float) (prev : Option Trial) (best : Option Evaluation) → I.Step a → PrevStep prev → I.Best c best
@@ -94,10 +94,10 @@ module _ (read : Float → Float) (gradients : Bool) (o : WolfeOptions) (l : Lin
         let q = before-step prev p in
         let best' = keep read gradients o l t best in
         let prev' = before read gradients o l prev in
-        by_cond (I.Then k d) (not (armijoOf o l t.trial) || risen read gradients o l prev t.trial) _ _ (λ i. zoom-holds k d prev' t.trial best' q r kept)
-        (λ i. by_cond (I.Then k d) (curvatureOf o l t.trial) _ _ (I.succeeds k d t h (or-false (armijoOf o l t.trial) (risen read gradients o l prev t.trial) i))
-        (λ j. by_cond (I.Then k d) (not (finiteOf t.trial.slope) || le plusZero t.trial.slope) _ _ (λ m. zoom-holds k d t.trial prev' best' r q kept)
-        (λ m. by_cond (I.Then k d) (le o.stepmax a) _ _ (λ n. I.fails k d best' kept) (λ n. bracket-holds k d (minOf (two ⊗ a) o.stepmax) (some t.trial) best' (I.doubled a s) r kept)))))
+        by-cond (I.Then k d) (not (armijoOf o l t.trial) || risen read gradients o l prev t.trial) _ _ (λ i. zoom-holds k d prev' t.trial best' q r kept)
+        (λ i. by-cond (I.Then k d) (curvatureOf o l t.trial) _ _ (I.succeeds k d t h (or-false (armijoOf o l t.trial) (risen read gradients o l prev t.trial) i))
+        (λ j. by-cond (I.Then k d) (not (finiteOf t.trial.slope) || le plusZero t.trial.slope) _ _ (λ m. zoom-holds k d t.trial prev' best' r q kept)
+        (λ m. by-cond (I.Then k d) (le o.stepmax a) _ _ (λ n. I.fails k d best' kept) (λ n. bracket-holds k d (minOf (two ⊗ a) o.stepmax) (some t.trial) best' (I.doubled a s) r kept)))))
 
     pub search-holds : (c : I.State) (initial : Float) → I.Step (minOf initial o.stepmax) → I.Best c none → I.Then o.evals c (search read gradients o l initial)
     search-holds c initial s b = bracket-holds o.evals c (minOf initial o.stepmax) none none s tt b

@@ -25,7 +25,7 @@ use Rattle.linesearch_theory.proofs.LawsInduction.{Invariant, search-holds, keep
 use Rattle.linesearch_theory.proofs.LawsTold.{Tried, tried-grows, AtA, eval-told}
 
 -- `Step` holds of the steps tried: each is made from such ones
-module _ (read : Float → Float) (gradients : Bool) (o : WolfeOptions) (l : Line) (Step : Float → Type 0) (at_zero : Step plusZero)
+module _ (read : Float → Float) (gradients : Bool) (o : WolfeOptions) (l : Line) (Step : Float → Type 0) (at-zero : Step plusZero)
     (doubled : (a : Float) → Step a → Step (minOf (two ⊗ a) o.stepmax)) (between : (lo hi : Trial) → Step lo.step → Step hi.step → Step (interpolateOf lo hi)) where
   abbrev pub Fine : List Exchange → Evaluation → Type 0
   Fine es t = Step t.trial.step × Tried l es t
@@ -81,7 +81,7 @@ module _ (read : Float → Float) (gradients : Bool) (o : WolfeOptions) (l : Lin
     Step = Step;
     Fine = Fine;
     Best = Best;
-    at_zero = at_zero;
+    at-zero = at-zero;
     doubled = doubled;
     between = between;
     fine-step = λ es t h. h.0;

@@ -15,7 +15,7 @@ use Rattle.vector.specs.Loops.{upto, at}
 use Rattle.vector.specs.Lists.{dot, first}
 use Rattle.protocol.specs.declared.Kind.TheVariants.{Value}
 use Rattle.protocol.specs.declared.WolfeOptions.{WolfeOptions}
-use Rattle.protocol.specs.Protocol.{read_of}
+use Rattle.protocol.specs.Protocol.{readOf}
 use Rattle.protocol.specs.Dialogue.{Exchange, F64s}
 use Rattle.protocol.specs.Ask.{Ask, finish, askValue, ◌>>=◌, heardAt, wp, Grows}
 use Rattle.protocol.proofs.Texts.{wp-bind, wp-map, wp-grows}
@@ -48,18 +48,18 @@ nans-f64s (y ∷ x) = (unfold fits in tt, nans-f64s x)
 
 -- ---- a value, and a gradient
 
-pub read-cases : (v : Float) → Finite (read_of v) ⊎ (read_of v ≡ inf false)
-unfolding read_of finiteOf
+pub read-cases : (v : Float) → Finite (readOf v) ⊎ (readOf v ≡ inf false)
+unfolding readOf finiteOf
 read-cases nan = inr refl
 read-cases (inf s) = inr refl
 read-cases (fin s m e) = inl tt
 
-value-heard : (x : List Float) (es : List Exchange) → wp es (askValue read_of x) (Heard x)
+value-heard : (x : List Float) (es : List Exchange) → wp es (askValue readOf x) (Heard x)
 value-heard x es n w l i =
     let v = get_or w 0 nan in
     ⊎_elim
     (λ f.
-    let same : read_of v ≡ v = read-own v f in
+    let same : readOf v ≡ v = read-own v f in
     inl (f, subst F64 (sym same) (at-f64 w 0 i), (heardAt n Value x w, Memᴰ.append_right es (Memᴰ.head refl), refl, refl, only w l ∙ ap (λ (z : Float). z ∷ []) (sym same))))
     (λ e. inr e) (read-cases v)
 
@@ -117,17 +117,17 @@ module _ (read : Float → Float) (gradients : Bool) (o : WolfeOptions) (l : Lin
   abbrev pub valued : Float → Float → Bool → Ask Evaluation
   valued a v b = cond b (evalGradient read gradients (pt a) >>= λ g. finish (made a v g)) (finish (evaluated read gradients o l a v (map (λ y. nan) (pt a)) nan))
 
-  with_value : (a v : Float) (b : Bool) (es : List Exchange) → finiteOf v ≡ b → Heard (pt a) es v → wp es (valued a v b) (AtA a)
-  with_value a v true es i h =
+  with-value : (a v : Float) (b : Bool) (es : List Exchange) → finiteOf v ≡ b → Heard (pt a) es v → wp es (valued a v b) (AtA a)
+  with-value a v true es i h =
       let m = evalGradient read gradients (pt a) in
       wp-bind es m (λ g. finish (made a v g)) (AtA a)
       (wp-map es m (λ fs g. Grows es fs × F64s g) (λ fs g. AtA a fs (made a v g))
       (λ fs g k. (refl, record { heard = heard-grows es fs (pt a) v k.0 h; together = record { point = refl; slope = λ f. refl }; gradient = k.1 }))
       (wp-grows es m (λ fs g. F64s g) (gradient-f64s read gradients (pt a) es)))
-  with_value a v false es i h = (refl, record { heard = h; together = record { point = refl; slope = λ f. absurd (subst T i f) }; gradient = nans-f64s (pt a) })
+  with-value a v false es i h = (refl, record { heard = h; together = record { point = refl; slope = λ f. absurd (subst T i f) }; gradient = nans-f64s (pt a) })
 
   pub eval-told : (a : Float) (es : List Exchange) → wp es (eval read gradients o l a) (λ fs t. Grows es fs × AtA a fs t)
   eval-told a es =
       wp-grows es (eval read gradients o l a) (AtA a)
-      (wp-bind es (askValue read_of (pt a)) (λ v. valued a v (finiteOf v)) (AtA a)
-      (wp-map es (askValue read_of (pt a)) (Heard (pt a)) (λ fs v. wp fs (valued a v (finiteOf v)) (AtA a)) (λ fs v h. with_value a v (finiteOf v) fs refl h) (value-heard (pt a) es)))
+      (wp-bind es (askValue readOf (pt a)) (λ v. valued a v (finiteOf v)) (AtA a)
+      (wp-map es (askValue readOf (pt a)) (Heard (pt a)) (λ fs v. wp fs (valued a v (finiteOf v)) (AtA a)) (λ fs v h. with-value a v (finiteOf v) fs refl h) (value-heard (pt a) es)))

@@ -12,12 +12,12 @@ use lib.ListN.{length, length-append, get_or, set}
 use lib.Ieee.{Float, nan, lt, le}
 use Rattle.float.specs.Binary64.{NotAbove, ◌⊗◌, plusZero}
 use Rattle.float.specs.Values.{Finite, finiteOf, minOf}
-use Rattle.float.proofs.Order.{lt-le-trans, le_lt_trans, lt→le, not-lt→le, by-test}
-use Rattle.float.proofs.Signs.{finite_number}
+use Rattle.float.proofs.Order.{lt-le-trans, le-lt-trans, lt→le, not-lt→le, by-test}
+use Rattle.float.proofs.Signs.{finite-number}
 use Rattle.vector.specs.Loops.{at}
 use Rattle.protocol.specs.declared.Kind.TheVariants.{Value, Gradient}
 use Rattle.protocol.specs.declared.WolfeOptions.{WolfeOptions}
-use Rattle.protocol.specs.Protocol.{read_of}
+use Rattle.protocol.specs.Protocol.{readOf}
 use Rattle.protocol.specs.Dialogue.{Exchange}
 use Rattle.protocol.specs.Ask.{Ask, finish, askValue, ◌>>=◌, heardAt, wp}
 use Rattle.protocol.proofs.Texts.{wp-bind, wp-map}
@@ -33,9 +33,9 @@ use Rattle.linesearch_theory.specs.Laws.{Together, OfGradient, Trials, FirstLeas
 use Rattle.linesearch_theory.proofs.LawsInduction.{Invariant, search-holds, given-cases}
 use Rattle.linesearch_theory.proofs.LawsTold.{pt, made, valued}
 
-append_assoc : {A : Type 0} (u v w : List A) → (u ++ v) ++ w ≡ u ++ (v ++ w)
-append_assoc [] v w = refl
-append_assoc (x ∷ u) v w = ap (λ l. x ∷ l) (append_assoc u v w)
+append-assoc : {A : Type 0} (u v w : List A) → (u ++ v) ++ w ≡ u ++ (v ++ w)
+append-assoc [] v w = refl
+append-assoc (x ∷ u) v w = ap (λ l. x ∷ l) (append-assoc u v w)
 
 append-nil : {A : Type 0} (u : List A) → u ≡ u ++ []
 append-nil [] = refl
@@ -60,7 +60,7 @@ module _ (read : Float → Float) (x : List Float) where
       wp-map gs (differencesFrom read x k (suc i) grad') (λ fs g. Rest false x gs fs) (λ fs g. Rest false x es fs)
       (λ fs g r. (
         one ∷ two ∷ r.0,
-        r.1 ∙ append_assoc (es ++ (one ∷ [])) (two ∷ []) r.0 ∙ append_assoc es (one ∷ []) (two ∷ r.0),
+        r.1 ∙ append-assoc (es ++ (one ∷ [])) (two ∷ []) r.0 ∙ append-assoc es (one ∷ []) (two ∷ r.0),
         λ e h.
             ⊎_elim (λ q. subst (OfGradient false x) (sym q) (refl, (i, inl refl)))
             (λ q. ⊎_elim (λ t. subst (OfGradient false x) (sym t) (refl, (i, inr refl))) (λ t. r.2 e t) (Memᴰ.cases_cons q)) (Memᴰ.cases_cons h),
@@ -78,7 +78,7 @@ pub record One (gradients : Bool) (l : Line) (es fs : List Exchange) (t : Evalua
   pub number : ℕ
   pub words : List Float
   pub rest : List Exchange
-  pub value : read_of (get_or words 0 nan) ≡ t.trial.value
+  pub value : readOf (get_or words 0 nan) ≡ t.trial.value
   pub together : Together l t
   pub gradient : (e : Exchange) → Memᴰ e rest → OfGradient gradients t.x e
   pub exchanges : es ++ (heardAt number Value t.x words ∷ rest) ≡ fs
@@ -96,15 +96,15 @@ module _ (read : Float → Float) (gradients : Bool) (o : WolfeOptions) (l : Lin
   OneAt a es fs t = One gradients l es fs t × (t.trial.step ≡ a)
 
   eval-one : (a : Float) (es : List Exchange) → wp es (eval read gradients o l a) (OneAt a es)
-  eval-one a es = wp-bind es (askValue read_of x) (λ v. valued read gradients o l a v (finiteOf v)) (OneAt a es) (λ n w k i. go n w (finiteOf (read_of (get_or w 0 nan))) refl)
+  eval-one a es = wp-bind es (askValue readOf x) (λ v. valued read gradients o l a v (finiteOf v)) (OneAt a es) (λ n w k i. go n w (finiteOf (readOf (get_or w 0 nan))) refl)
     where
       x : List Float
       x = pt read gradients o l a
 
-      go : (n : ℕ) (w : List Float) (b : Bool) → finiteOf (read_of (get_or w 0 nan)) ≡ b → wp (es ++ (heardAt n Value x w ∷ [])) (valued read gradients o l a (read_of (get_or w 0 nan)) b) (OneAt a es)
+      go : (n : ℕ) (w : List Float) (b : Bool) → finiteOf (readOf (get_or w 0 nan)) ≡ b → wp (es ++ (heardAt n Value x w ∷ [])) (valued read gradients o l a (readOf (get_or w 0 nan)) b) (OneAt a es)
       go n w true i =
           let fs = es ++ (heardAt n Value x w ∷ []) in
-          let v = read_of (get_or w 0 nan) in
+          let v = readOf (get_or w 0 nan) in
           wp-bind fs (evalGradient read gradients x) (λ g. finish (made read gradients o l a v g)) (OneAt a es)
           (wp-map fs (evalGradient read gradients x) (λ gs g. Rest gradients x fs gs) (λ gs g. OneAt a es gs (made read gradients o l a v g))
           (λ gs g r. (
@@ -115,7 +115,7 @@ module _ (read : Float → Float) (gradients : Bool) (o : WolfeOptions) (l : Lin
               value = refl;
               together = record { point = refl; slope = λ f. refl };
               gradient = r.2;
-              exchanges = sym (append_assoc es (heardAt n Value x w ∷ []) r.0) ∙ sym r.1;
+              exchanges = sym (append-assoc es (heardAt n Value x w ∷ []) r.0) ∙ sym r.1;
             },
             refl,
           ))
@@ -135,75 +135,75 @@ module _ (read : Float → Float) (gradients : Bool) (o : WolfeOptions) (l : Lin
 
 -- ---- the first of the least
 
-abbrev value_of : Evaluation → Float
-value_of t = t.trial.value
+abbrev valueOf : Evaluation → Float
+valueOf t = t.trial.value
 
 -- the best of ts: none where none is finite
 abbrev BestOf : List Evaluation → Option Evaluation → Type 0
-BestOf ts none = (t : Evaluation) → Memᴰ t ts → Finite (value_of t) → ⊥
+BestOf ts none = (t : Evaluation) → Memᴰ t ts → Finite (valueOf t) → ⊥
 BestOf ts (some b) = FirstLeast ts b
 
 -- not above any that is finite
-least-le : (ts : List Evaluation) (b : Evaluation) → FirstLeast ts b → (t : Evaluation) → Memᴰ t ts → Finite (value_of t) → T (le (value_of b) (value_of t))
+least-le : (ts : List Evaluation) (b : Evaluation) → FirstLeast ts b → (t : Evaluation) → Memᴰ t ts → Finite (valueOf t) → T (le (valueOf b) (valueOf t))
 least-le ts b h t m f =
-    ⊎_elim (λ i. lt→le (value_of b) (value_of t) (h.above t i f))
-    (λ i. ⊎_elim (λ e. subst (λ (z : Evaluation). T (le (value_of b) (value_of z))) (sym e) (le-self (value_of b) h.finite)) (λ j. h.not-below t j f) (Memᴰ.cases_cons i))
+    ⊎_elim (λ i. lt→le (valueOf b) (valueOf t) (h.above t i f))
+    (λ i. ⊎_elim (λ e. subst (λ (z : Evaluation). T (le (valueOf b) (valueOf z))) (sym e) (le-self (valueOf b) h.finite)) (λ j. h.not-below t j f) (Memᴰ.cases_cons i))
     (Memᴰ.append_cases h.before (subst (Memᴰ t) h.split m))
   where
     le-self : (v : Float) → Finite v → T (le v v)
-    le-self v f = not-lt→le v v (finite_number v f) (finite_number v f) (not-above-self v)
+    le-self v f = not-lt→le v v (finite-number v f) (finite-number v f) (not-above-self v)
 
 module _ (ts : List Evaluation) (t : Evaluation) where
   abbrev more : List Evaluation
   more = ts ++ (t ∷ [])
 
   -- one that is not below the best comes after it
-  after_more : (b : Evaluation) → FirstLeast ts b → (Finite (value_of t) → T (le (value_of b) (value_of t))) → FirstLeast more b
-  after_more b h k =
+  after-more : (b : Evaluation) → FirstLeast ts b → (Finite (valueOf t) → T (le (valueOf b) (valueOf t))) → FirstLeast more b
+  after-more b h k =
       record {
         before = h.before;
         after = h.after ++ (t ∷ []);
-        split = ap (λ (z : List Evaluation). z ++ (t ∷ [])) h.split ∙ append_assoc h.before (b ∷ h.after) (t ∷ []);
+        split = ap (λ (z : List Evaluation). z ++ (t ∷ [])) h.split ∙ append-assoc h.before (b ∷ h.after) (t ∷ []);
         finite = h.finite;
         above = h.above;
         not-below = λ u m f.
             ⊎_elim (λ i. h.not-below u i f)
-            (λ i. let e = Memᴰ.eq_of_singleton i in subst (λ (z : Evaluation). T (le (value_of b) (value_of z))) (sym e) (k (subst (λ (z : Evaluation). Finite (value_of z)) e f)))
+            (λ i. let e = Memᴰ.eq_of_singleton i in subst (λ (z : Evaluation). T (le (valueOf b) (valueOf z))) (sym e) (k (subst (λ (z : Evaluation). Finite (valueOf z)) e f)))
             (Memᴰ.append_cases h.after m);
       }
 
   -- one that is not finite changes nothing
-  skips : (best : Option Evaluation) → (Finite (value_of t) → ⊥) → BestOf ts best → BestOf more best
+  skips : (best : Option Evaluation) → (Finite (valueOf t) → ⊥) → BestOf ts best → BestOf more best
   skips none n h =
       λ u m f.
-      ⊎_elim (λ i. h u i f) (λ i. n (subst (λ (z : Evaluation). Finite (value_of z)) (Memᴰ.eq_of_singleton i) f)) (Memᴰ.append_cases ts m)
-  skips (some b) n h = after_more b h (λ f. absurd (n f))
+      ⊎_elim (λ i. h u i f) (λ i. n (subst (λ (z : Evaluation). Finite (valueOf z)) (Memᴰ.eq_of_singleton i) f)) (Memᴰ.append_cases ts m)
+  skips (some b) n h = after-more b h (λ f. absurd (n f))
 
   -- one that is below all before it
-  replaces : Finite (value_of t) → ((u : Evaluation) → Memᴰ u ts → Finite (value_of u) → T (lt (value_of t) (value_of u))) → FirstLeast more t
+  replaces : Finite (valueOf t) → ((u : Evaluation) → Memᴰ u ts → Finite (valueOf u) → T (lt (valueOf t) (valueOf u))) → FirstLeast more t
   replaces f h = record { before = ts; after = []; split = refl; finite = f; above = h; not-below = λ u m i. absurd (Memᴰ.not-nil m) }
 
 module _ (read : Float → Float) (gradients : Bool) (o : WolfeOptions) (l : Line) (ts : List Evaluation) (t : Evaluation) where
-  keeps-none : (b : Bool) → finiteOf (value_of t) ≡ b → BestOf ts none → BestOf (ts ++ (t ∷ [])) (cond b (some t) none)
-  keeps-none true e h = replaces ts t (true-T (finiteOf (value_of t)) e) (λ u m f. absurd (h u m f))
+  keeps-none : (b : Bool) → finiteOf (valueOf t) ≡ b → BestOf ts none → BestOf (ts ++ (t ∷ [])) (cond b (some t) none)
+  keeps-none true e h = replaces ts t (true-T (finiteOf (valueOf t)) e) (λ u m f. absurd (h u m f))
   keeps-none false e h = skips ts t none (λ f. subst T e f) h
 
-  keeps-some : (s : Evaluation) (b c : Bool) → finiteOf (value_of t) ≡ b → lt (value_of t) (value_of s) ≡ c → FirstLeast ts s → BestOf (ts ++ (t ∷ [])) (cond b (cond c (some t) (some s)) (some s))
+  keeps-some : (s : Evaluation) (b c : Bool) → finiteOf (valueOf t) ≡ b → lt (valueOf t) (valueOf s) ≡ c → FirstLeast ts s → BestOf (ts ++ (t ∷ [])) (cond b (cond c (some t) (some s)) (some s))
   keeps-some s true true e i h =
-      replaces ts t (true-T (finiteOf (value_of t)) e)
-      (λ u m f. lt-le-trans (value_of t) (value_of s) (value_of u) (true-T (lt (value_of t) (value_of s)) i) (least-le ts s h u m f))
+      replaces ts t (true-T (finiteOf (valueOf t)) e)
+      (λ u m f. lt-le-trans (valueOf t) (valueOf s) (valueOf u) (true-T (lt (valueOf t) (valueOf s)) i) (least-le ts s h u m f))
   keeps-some s true false e i h =
-      after_more ts t s h (λ f. not-lt→le (value_of t) (value_of s) (finite_number (value_of t) f) (finite_number (value_of s) h.finite) (rw i tt))
+      after-more ts t s h (λ f. not-lt→le (valueOf t) (valueOf s) (finite-number (valueOf t) f) (finite-number (valueOf s) h.finite) (rw i tt))
   keeps-some s false c e i h = skips ts t (some s) (λ f. subst T e f) h
 
   keeps : (best : Option Evaluation) → BestOf ts best → BestOf (ts ++ (t ∷ [])) (keep read gradients o l t best)
-  keeps none h = keeps-none (finiteOf (value_of t)) refl h
-  keeps (some s) h = keeps-some s (finiteOf (value_of t)) (lt (value_of t) (value_of s)) refl refl h
+  keeps none h = keeps-none (finiteOf (valueOf t)) refl h
+  keeps (some s) h = keeps-some s (finiteOf (valueOf t)) (lt (valueOf t) (valueOf s)) refl refl h
 
 -- ---- the search
 
 -- `Step` holds of the steps tried: each is made from such ones
-module _ (read : Float → Float) (gradients : Bool) (o : WolfeOptions) (l : Line) (Step : Float → Type 0) (at_zero : Step plusZero)
+module _ (read : Float → Float) (gradients : Bool) (o : WolfeOptions) (l : Line) (Step : Float → Type 0) (at-zero : Step plusZero)
     (doubled : (a : Float) → Step a → Step (minOf (two ⊗ a) o.stepmax)) (between : (lo hi : Trial) → Step lo.step → Step hi.step → Step (interpolateOf lo hi))
     (initial : Float) (es : List Exchange) where
   abbrev Steps : List Evaluation → Type 0
@@ -238,18 +238,18 @@ module _ (read : Float → Float) (gradients : Bool) (o : WolfeOptions) (l : Lin
       (omega (arith, length-append c.1 (t ∷ []))) (steps-more c.1 t p step))
       (eval-one read gradients o l a c.0))
 
-  none_below : (ts : List Evaluation) (b : Evaluation) → FirstLeast ts b → lt (value_of b) l.f ≡ false → (t : Evaluation) → Memᴰ t ts → Finite (value_of t) → NotAbove l.f (value_of t)
-  none_below ts b h e t m f =
-      by-test (lt (value_of t) l.f) (λ i. absurd (subst T e (le_lt_trans (value_of b) (value_of t) l.f (least-le ts b h t m f) i))) (λ i. i)
+  none-below : (ts : List Evaluation) (b : Evaluation) → FirstLeast ts b → lt (valueOf b) l.f ≡ false → (t : Evaluation) → Memᴰ t ts → Finite (valueOf t) → NotAbove l.f (valueOf t)
+  none-below ts b h e t m f =
+      by-test (lt (valueOf t) l.f) (λ i. absurd (subst T e (le-lt-trans (valueOf b) (valueOf t) l.f (least-le ts b h t m f) i))) (λ i. i)
 
   -- what a failure gives, of the trials ts
   abbrev Given : List Evaluation → Evaluation → Type 0
   Given ts at =
-      (FirstLeast ts at × T (lt (value_of at) l.f)) ⊎ ((at ≡ start read gradients o l) × ((t : Evaluation) → Memᴰ t ts → Finite (value_of t) → NotAbove l.f (value_of t)))
+      (FirstLeast ts at × T (lt (valueOf at) l.f)) ⊎ ((at ≡ start read gradients o l) × ((t : Evaluation) → Memᴰ t ts → Finite (valueOf t) → NotAbove l.f (valueOf t)))
 
   given : (ts : List Evaluation) (best : Option Evaluation) → BestOf ts best → Given ts (bestOrStart read gradients o l best)
   given ts none b = inr (refl, λ t m f. absurd (b t m f))
-  given ts (some s) b = given-cases read gradients o l (Given ts) s (λ i. inl (b, true-T (lt (value_of s) l.f) i)) (λ i. inr (refl, none_below ts s b i))
+  given ts (some s) b = given-cases read gradients o l (Given ts) s (λ i. inl (b, true-T (lt (valueOf s) l.f) i)) (λ i. inr (refl, none-below ts s b i))
 
   invariant : Invariant read gradients o l
   invariant = record {
@@ -258,7 +258,7 @@ module _ (read : Float → Float) (gradients : Bool) (o : WolfeOptions) (l : Lin
     Step = Step;
     Fine = Last;
     Best = λ c b. BestOf c.1 b;
-    at_zero = at_zero;
+    at-zero = at-zero;
     doubled = doubled;
     between = between;
     fine-step = λ c t h. h.0;

@@ -9,9 +9,9 @@ use lib.IntN.{ℤ, pos, negsuc}
 use lib.Dec.{T, ltb, eqb}
 use lib.Ieee.{Float, nan, inf, fin, binary64, up, down, round, add, sub, mul, neg, lt, le, eq, is_nan, sum, of_bits}
 use Rattle.float.specs.Binary64.{Number, NotAbove, negative, ◌⊕◌, ◌⊖◌, ◌⊗◌, ◌⊘◌, bits, plusZero}
-use Rattle.float.specs.Values.{Finite, finiteOf, signumOf, max_of, minOf}
+use Rattle.float.specs.Values.{Finite, finiteOf, signumOf, maxOf, minOf}
 use Rattle.float.specs.Sqrt.{sqrtOf}
-use Rattle.float.proofs.Order.{fin-le, le-number-l, le_trans, lt_trans, lt_irrefl, by-test}
+use Rattle.float.proofs.Order.{fin-le, le-number-l, le-trans, lt-trans, lt-irrefl, by-test}
 use Rattle.float.proofs.Sums.{round-neg, round-negative, minus-le}
 use Rattle.float.proofs.Tests.{false-T}
 use Rattle.protocol.proofs.Replies.{true-T}
@@ -129,8 +129,8 @@ less-plus m n e d h = go (ltb x y) h
     go true h = absurd h
     go false h = round-plus (x - y) (down e * down d)
 
-width-plus : (x y : Float) → Finite y → Plus x → Plus y → Plus (max_of x y ⊖ minOf x y)
-unfolding max_of minOf finiteOf is_nan
+width-plus : (x y : Float) → Finite y → Plus x → Plus y → Plus (maxOf x y ⊖ minOf x y)
+unfolding maxOf minOf finiteOf is_nan
 width-plus x nan f p q = absurd f
 width-plus x (inf t) f p q = absurd f
 width-plus nan (fin t n d) f p q = absurd p
@@ -147,10 +147,10 @@ width-plus (fin false m e) (fin false n d) f p q = go (lt x y) (lt y x) refl ref
     y = fin false n d
 
     go : (a b : Bool) → lt x y ≡ a → lt y x ≡ b → Plus (cond a y x ⊖ cond b y x)
-    go true true i j = absurd (lt_irrefl x (lt_trans x y x (true-T (lt x y) i) (true-T (lt y x) j)))
+    go true true i j = absurd (lt-irrefl x (lt-trans x y x (true-T (lt x y) i) (true-T (lt y x) j)))
     go true false i j = less-plus n m d e (false-T (lt y x) j)
     go false true i j = less-plus m n e d (false-T (lt x y) i)
-    go false false i j = less-plus m m e e (by-test (lt x x) (λ h. absurd (lt_irrefl x h)) (λ h. h))
+    go false false i j = less-plus m m e e (by-test (lt x x) (λ h. absurd (lt-irrefl x h)) (λ h. h))
 
 -- finite, and not at most something that has no minus
 above-plus : (a z : Float) → Finite a → Plus z → le a z ≡ false → Plus a
@@ -158,7 +158,7 @@ unfolding finiteOf
 above-plus nan z f p i = absurd f
 above-plus (inf s) z f p i = absurd f
 above-plus (fin false m e) z f p i = tt
-above-plus (fin true m e) z f p i = absurd (subst T i (le_trans (fin true m e) plusZero z (fin-le true m e false 0 (pos 0) tt) (plus-le z p)))
+above-plus (fin true m e) z f p i = absurd (subst T i (le-trans (fin true m e) plusZero z (fin-le true m e false 0 (pos 0) tt) (plus-le z p)))
 
 -- ---- the interpolated step
 
@@ -192,10 +192,10 @@ module _ (lo hi : Trial) (lo-plus : Plus lo.step) (hi-plus : Plus hi.step) where
       q = hi.step
 
       least : Float
-      least = minOf p q ⊕ bits 0x3fa9_9999_9999_999a ⊗ (max_of p q ⊖ minOf p q)
+      least = minOf p q ⊕ bits 0x3fa9_9999_9999_999a ⊗ (maxOf p q ⊖ minOf p q)
 
       most : Float
-      most = max_of p q ⊖ bits 0x3fa9_9999_9999_999a ⊗ (max_of p q ⊖ minOf p q)
+      most = maxOf p q ⊖ bits 0x3fa9_9999_9999_999a ⊗ (maxOf p q ⊖ minOf p q)
 
       go : (x y z : Bool) → finiteOf a ≡ x → le a least ≡ y → Plus (cond (cond (not x) true (cond y true z)) mid a)
       go false y z i j = mid-plus
@@ -204,8 +204,8 @@ module _ (lo hi : Trial) (lo-plus : Plus lo.step) (hi-plus : Plus hi.step) where
       go true false false i j =
           let fine : Finite a = true-T (finiteOf a) i in
           above-plus a least fine
-          (sum-plus (minOf p q) (bits 0x3fa9_9999_9999_999a ⊗ (max_of p q ⊖ minOf p q)) (min-plus p q lo-plus hi-plus)
-          (margin-plus (max_of p q ⊖ minOf p q) (width-plus p q (f fine) lo-plus hi-plus))) j
+          (sum-plus (minOf p q) (bits 0x3fa9_9999_9999_999a ⊗ (maxOf p q ⊖ minOf p q)) (min-plus p q lo-plus hi-plus)
+          (margin-plus (maxOf p q ⊖ minOf p q) (width-plus p q (f fine) lo-plus hi-plus))) j
 
   minimiser-plus : (d1 disc : Float) → Plus (minimiserOf lo hi d1 disc)
   unfolding minimiserOf

@@ -11,14 +11,14 @@ use Rattle.float.specs.Values.{finiteOf, positiveOf, minOf}
 use Rattle.vector.specs.Lists.{dot, plusScaled, allFinite}
 use Rattle.protocol.specs.declared.WolfeOptions.{WolfeOptions}
 use Rattle.protocol.specs.declared.Refusal.{Refusal}
-use Rattle.protocol.specs.Protocol.{read_of, refusal, noRefusal}
+use Rattle.protocol.specs.Protocol.{readOf, refusal, noRefusal}
 use Rattle.protocol.specs.Ask.{Ask, finish, askValue, ◌>>=◌}
 use Rattle.objective.specs.Algorithm.{evalGradient}
 use Rattle.linesearch_trials.specs.declared.Trial.{Trial}
 use Rattle.linesearch_trials.specs.declared.Evaluation.{Evaluation}
 use Rattle.linesearch_trials.specs.declared.Line.{Line}
 use Rattle.linesearch_trials.specs.Cubic.{interpolateOf}
-use Rattle.linesearch_trials.specs.Trials.{one, two, start_of, armijoOf, curvatureOf, narrowOf}
+use Rattle.linesearch_trials.specs.Trials.{one, two, startOf, armijoOf, curvatureOf, narrowOf}
 
 -- `WolfeResult`: whether both conditions hold, the trial that is given, and how many were made
 pub record WolfeResult : Type 0 where
@@ -38,7 +38,7 @@ module _ (read : Float → Float) (gradients : Bool) (o : WolfeOptions) (l : Lin
   -- `eval`: phi(a) and phi'(a). A value that is not finite is +infinity, and its gradient is not asked for.
   abbrev pub eval : Float → Ask Evaluation
   eval a =
-      askValue read_of (pointAt a) >>= λ v.
+      askValue readOf (pointAt a) >>= λ v.
       cond (finiteOf v) (evalGradient read gradients (pointAt a) >>= λ g. finish (evaluated a v g (dot g l.d))) (finish (evaluated a v (map (λ y. nan) (pointAt a)) nan))
 
   -- fv.is_finite() && best.is_none_or(|b| fv < b.f): the best finite trial, first on ties
@@ -50,7 +50,7 @@ module _ (read : Float → Float) (gradients : Bool) (o : WolfeOptions) (l : Lin
   keep t best = cond (finiteOf t.trial.value) (cond (lower t best) (some t) best) best
 
   abbrev pub start : Evaluation
-  start = record { trial = start_of l; x = l.x; g = l.g }
+  start = record { trial = startOf l; x = l.x; g = l.g }
 
   -- 01: "the best finite trial below f0, first on ties, else step 0 and the start"
   abbrev pub bestOrStart : Option Evaluation → Evaluation
@@ -86,7 +86,7 @@ module _ (read : Float → Float) (gradients : Bool) (o : WolfeOptions) (l : Lin
 
   -- a_{i-1}: the trial before, or step 0
   abbrev pub before : Option Trial → Trial
-  before none = start_of l
+  before none = startOf l
   before (some p) = p
 
   -- 3.5: phi(a_i) >= phi(a_{i-1}) and i > 1

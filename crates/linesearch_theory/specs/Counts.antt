@@ -5,15 +5,15 @@ use Rattle.protocol.specs.declared.Kind.{Kind}
 use Rattle.protocol.specs.declared.Kind.TheVariants.{Value}
 use Rattle.protocol.specs.declared.WolfeOptions.{WolfeOptions}
 use Rattle.protocol.specs.Dialogue.{ofKind}
-use Rattle.protocol.specs.Bounds.{Costs, of_both}
+use Rattle.protocol.specs.Bounds.{Costs, ofBoth}
 use Rattle.objective.specs.Algorithm.{evalGradient}
 use Rattle.linesearch_trials.specs.declared.Line.{Line}
 use Rattle.linesearch_theory.specs.Algorithm.{search}
 
 -- what a gradient asks of the kind at a point of n coordinates: itself, or the 2n values of its differences
 abbrev pub perGradient : Kind → Bool → ℕ → ℕ
-perGradient κ true n = of_both κ 0 1
-perGradient κ false n = of_both κ (2 * n) 0
+perGradient κ true n = ofBoth κ 0 1
+perGradient κ false n = ofBoth κ (2 * n) 0
 
 -- a value, and a gradient
 abbrev pub perTrial : Kind → Bool → ℕ → ℕ

@@ -12,7 +12,7 @@ use Rattle.vector.specs.Lists.{first, dot}
 use Rattle.vector.specs.Ties.{ZeroFrom}
 use Rattle.protocol.specs.declared.Kind.{Kind}
 use Rattle.protocol.specs.declared.Kind.TheVariants.{Value, Gradient}
-use Rattle.protocol.specs.Protocol.{read_of}
+use Rattle.protocol.specs.Protocol.{readOf}
 use Rattle.protocol.specs.Ask.{Ask, finish, query, ◌>>=◌}
 use Rattle.objective.specs.Follows as differences
 use Rattle.linesearch_trials.specs.declared.Trial.{Trial}
@@ -20,7 +20,7 @@ use Rattle.linesearch_trials.specs.declared.Evaluation.{Evaluation}
 use Rattle.linesearch_trials.specs.declared.Line.{Line}
 use Rattle.linesearch_trials.specs.declared.Fixed.{Fixed}
 use Rattle.linesearch_moves.specs.declared.Search.{Search}
-use Rattle.linesearch_trials.specs.Trials.{two, start_of, armijoOf, curvatureOf}
+use Rattle.linesearch_trials.specs.Trials.{two, startOf, armijoOf, curvatureOf}
 use Rattle.linesearch.specs.Step.{asksValue, asksGradient, asksDifference, found, failed, begunOf, probeOf, toldOf, toldGradientOf}
 use Rattle.linesearch_theory.specs.Algorithm.{WolfeResult, pointAt, evaluated, eval, keep, failure, success, zoom, bracket, search}
 
@@ -42,8 +42,8 @@ previousTrial true p = some p
 previousTrial false p = none
 
 -- the kind of the open question
-abbrev pub kind_of : Search → Kind
-kind_of s = cond (eqb s.phase asksGradient) Gradient Value
+abbrev pub kindOf : Search → Kind
+kindOf s = cond (eqb s.phase asksGradient) Gradient Value
 
 -- ---- what holds of the arrays
 
@@ -90,7 +90,7 @@ module _ (read : Float → Float) (fixed : Fixed) (l : Line) where
       let gr = fixed.gradients in
       let o = fixed.options in
       let kept = keep read gr o lined t best in
-      let q = cond b p (start_of lined) in
+      let q = cond b p (startOf lined) in
       cond (not (armijoOf o lined t.trial) || cond (not b) false (le p.value t.trial.value)) (zoom read gr o lined k q t.trial kept)
       (cond (curvatureOf o lined t.trial) (success read gr o lined k t)
       (cond (not (finiteOf t.trial.slope) || le plusZero t.trial.slope) (zoom read gr o lined k t.trial q kept)
@@ -123,7 +123,7 @@ module _ (read : Float → Float) (fixed : Fixed) (l : Line) where
 
   -- what the record is after the words of an answer to its question
   abbrev pub answered : Search → List Float → Search
-  answered s w = cond (eqb s.phase asksGradient) (toldGradientOf fixed l s (fromSliceOf w fixed.n)) (toldOf fixed l s (read_of (get_or w 0 nan)) (read (get_or w 0 nan)))
+  answered s w = cond (eqb s.phase asksGradient) (toldGradientOf fixed l s (fromSliceOf w fixed.n)) (toldOf fixed l s (readOf (get_or w 0 nan)) (read (get_or w 0 nan)))
 
 module _ (read : Float → Float) (fixed : Fixed) (l : Line) where
   pub record SearchFollows : Type 0 where
@@ -132,8 +132,8 @@ module _ (read : Float → Float) (fixed : Fixed) (l : Line) where
     pub begun-asks : (initial : Float) → 0 < fixed.options.evals → (begunOf fixed l initial).phase ≡ asksValue
     -- whatever the words w tell
     pub follows : (s : Search) → SearchShaped fixed s → s.phase ≤ asksDifference
-        → toDo read fixed l s ≡ query (kind_of s) (first fixed.n (probeOf fixed l s)) (λ w. toDo read fixed l (answered read fixed l s w))
-    pub ends_found : (s : Search) → s.phase ≡ found → toDo read fixed l s ≡ finish (outcome read fixed l true s)
+        → toDo read fixed l s ≡ query (kindOf s) (first fixed.n (probeOf fixed l s)) (λ w. toDo read fixed l (answered read fixed l s w))
+    pub ends-found : (s : Search) → s.phase ≡ found → toDo read fixed l s ≡ finish (outcome read fixed l true s)
     pub ends-failed : (s : Search) → s.phase ≡ failed → toDo read fixed l s ≡ finish (outcome read fixed l false s)
     -- it lasts
     pub begun-shaped : (initial : Float) → fixed.n ≤ 16 → LineHas (λ x. length x ≡ 16) l → SearchShaped fixed (begunOf fixed l initial)

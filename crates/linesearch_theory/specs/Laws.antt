@@ -10,7 +10,7 @@ use Rattle.vector.specs.Lists.{dot, plusScaled}
 use Rattle.protocol.specs.declared.Kind.{Kind}
 use Rattle.protocol.specs.declared.Kind.TheVariants.{Value, Gradient}
 use Rattle.protocol.specs.declared.WolfeOptions.{WolfeOptions}
-use Rattle.protocol.specs.Protocol.{read_of}
+use Rattle.protocol.specs.Protocol.{readOf}
 use Rattle.protocol.specs.Dialogue.{Exchange, F64s, Told}
 use Rattle.protocol.specs.Ask.{Ask, finish, query, askValue, ◌>>=◌, heardAt, wp}
 use Rattle.protocol.specs.Rounds.{Ending}
@@ -32,7 +32,7 @@ abbrev pub Heard : List Float → List Exchange → Float → Type 0
 Heard x es v = ValueTold es x v ⊎ (v ≡ inf false)
 
 pub record EvaluationLaws : Type 0 where
-  pub value-heard : (x : List Float) (es : List Exchange) → wp es (askValue read_of x) (Heard x)
+  pub value-heard : (x : List Float) (es : List Exchange) → wp es (askValue readOf x) (Heard x)
   pub gradient-f64s : (read : Float → Float) (gradients : Bool) (x : List Float) (es : List Exchange) → wp es (evalGradient read gradients x) (λ fs g. F64s g)
 
 -- ---- what a search gives
@@ -79,7 +79,7 @@ OfGradient false y e = (e.question.kind ≡ Value) × Probe y e.question.point
 abbrev pub Trials : Bool → Line → List Exchange → List Exchange → List Evaluation → Type 0
 Trials gradients l es fs [] = es ≡ fs
 Trials gradients l es fs (t ∷ ts) =
-    (n : ℕ) × (w : List Float) × (rest : List Exchange) × (read_of (get_or w 0 nan) ≡ t.trial.value) × Together l t × ((e : Exchange) → Memᴰ e rest → OfGradient gradients t.x e)
+    (n : ℕ) × (w : List Float) × (rest : List Exchange) × (readOf (get_or w 0 nan) ≡ t.trial.value) × Together l t × ((e : Exchange) → Memᴰ e rest → OfGradient gradients t.x e)
     × Trials gradients l (es ++ (heardAt n Value t.x w ∷ rest)) fs ts
 
 -- b is the first of the least finite ones of ts

@@ -2,7 +2,7 @@
 use Rattle.std.specs.Prelude.{Bool, true, cond, not, Float}
 use Rattle.std.specs.Float.Ieee.{lt, le, eq}
 use Rattle.float.specs.Binary64.{◌⊕◌, ◌⊖◌, ◌⊗◌, ◌⊘◌, bits, plusZero}
-use Rattle.float.specs.Values.{finiteOf, signumOf, max_of, minOf}
+use Rattle.float.specs.Values.{finiteOf, signumOf, maxOf, minOf}
 use Rattle.float.specs.Sqrt.{sqrtOf}
 use Rattle.linesearch_trials.specs.declared.Trial.{Trial}
 
@@ -14,7 +14,7 @@ midpointOf lo hi = bits 0x3fe0_0000_0000_0000 ⊗ (lo.step ⊕ hi.step)
 unfoldable pub nearEndOf : Float → Float → Float → Bool
 nearEndOf a p q =
     let lo = minOf p q in
-    let hi = max_of p q in
+    let hi = maxOf p q in
     let margin = bits 0x3fa9_9999_9999_999a ⊗ (hi ⊖ lo) in
     cond (not (finiteOf a)) true (cond (le a (lo ⊕ margin)) true (le (hi ⊖ margin) a))
 

@@ -2,7 +2,7 @@
 use Rattle.std.specs.Prelude.{Bool, false, cond, not, Float}
 use Rattle.std.specs.Float.Ieee.{neg, le}
 use Rattle.float.specs.Binary64.{◌⊕◌, ◌⊖◌, ◌⊗◌, bits, plusZero}
-use Rattle.float.specs.Values.{absOf, finiteOf, max_of}
+use Rattle.float.specs.Values.{absOf, finiteOf, maxOf}
 use Rattle.protocol.specs.declared.WolfeOptions.{WolfeOptions}
 use Rattle.linesearch_trials.specs.declared.Trial.{Trial}
 use Rattle.linesearch_trials.specs.declared.Line.{Line}
@@ -14,8 +14,8 @@ abbrev pub two : Float
 two = bits 0x4000_0000_0000_0000
 
 -- the trial at step 0: the start of the line
-unfoldable pub start_of : Line → Trial
-start_of l = record { step = plusZero; value = l.f; slope = l.slope }
+unfoldable pub startOf : Line → Trial
+startOf l = record { step = plusZero; value = l.f; slope = l.slope }
 
 -- t.f <= self.f0 + self.c1 * t.a * self.dphi0
 unfoldable pub armijoOf : WolfeOptions → Line → Trial → Bool
@@ -27,4 +27,4 @@ curvatureOf o l t = cond (not (finiteOf t.slope)) false (le (absOf t.slope) (neg
 
 -- (hi.a - lo.a).abs() <= MIN_REL_WIDTH * lo.a.abs().max(hi.a.abs()).max(1.0)
 unfoldable pub narrowOf : Trial → Trial → Bool
-narrowOf lo hi = le (absOf (hi.step ⊖ lo.step)) (bits 0x3d06_849b_86a1_2b9b ⊗ max_of (max_of (absOf lo.step) (absOf hi.step)) one)
+narrowOf lo hi = le (absOf (hi.step ⊖ lo.step)) (bits 0x3d06_849b_86a1_2b9b ⊗ maxOf (maxOf (absOf lo.step) (absOf hi.step)) one)

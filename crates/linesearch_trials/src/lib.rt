@@ -5,7 +5,7 @@ mod refusals;
 
 ghost use Rattle.std.specs.Prelude.{◌≡◌};
 ghost use Rattle.linesearch_trials.specs.Cubic.{midpointOf, nearEndOf, d1Of, minimiserOf, interpolateOf};
-ghost use Rattle.linesearch_trials.specs.Trials.{start_of, armijoOf, curvatureOf, narrowOf};
+ghost use Rattle.linesearch_trials.specs.Trials.{startOf, armijoOf, curvatureOf, narrowOf};
 
 pub use evaluations::{evaluated, infeasible, point_at};
 use protocol::WolfeOptions;
@@ -123,7 +123,7 @@ pub fn interpolate(lo: Trial, hi: Trial) -> f64
 
 // The trial at step 0.
 pub fn start(l: Line) -> Trial
-    ensures { result ≡ start_of l }
+    ensures { result ≡ startOf l }
 {
     Trial {
         step: 0.0,

@@ -8,7 +8,7 @@ use borrow.Author.Tests.{eqb-true}
 use Rattle.float.proofs.Tests.{by}
 use Rattle.neldermead.specs.declared.Fixed.{Fixed}
 use Rattle.neldermead.specs.Step.{building, reflecting, expanding, contractingOutside, contractingInside, shrinking, bySimplexIterations, bySimplexFevals, reasonOf}
-use Rattle.neldermead.specs.Parts.{rests, built, takes, keeps, shrunk, amongOf, taken_of, reflectionOf, outcomeOf, verdictOf}
+use Rattle.neldermead.specs.Parts.{rests, built, takes, keeps, shrunk, amongOf, takenOf, reflectionOf, outcomeOf, verdictOf}
 
 -- no question is open in this phase
 pub record Ended (phase : ℕ) : Type 0 where
@@ -39,7 +39,7 @@ module _ (phase at n : ℕ) (f best second worst reflected : Float) where
     pub ended : Ended phase → P rests
 
   pub outcome-cases : (P : ℕ → Type 0) → Outcomes P → P (outcomeOf phase at n f best second worst reflected)
-  unfolding outcomeOf amongOf taken_of reflectionOf
+  unfolding outcomeOf amongOf takenOf reflectionOf
   outcome-cases P k =
       by (eqb phase building)
       (λ e. rw e (by (ltb at n) (λ m. rw m (k.builds (eqb-true _ _ e) m)) (λ m. rw m (k.completes (eqb-true _ _ e) m))))

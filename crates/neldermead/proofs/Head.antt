@@ -15,7 +15,7 @@ use Rattle.neldermead_vertices.specs.Method.{alpha, better, resolution}
 use Rattle.neldermead_vertices.specs.Vertices.{vertexAt, sortedOf, centroidOf, convergedOf}
 use Rattle.neldermead.specs.declared.Fixed.{Fixed}
 use Rattle.neldermead.specs.declared.Simplex.{Simplex}
-use Rattle.neldermead.specs.Step.{building, reflecting, byTolerance, byResolution, phased, asked, withOrder, withRound, rerun, orderedOf, trialOf, reflectOf, reasonOf, done_of, tested_of, headedOf}
+use Rattle.neldermead.specs.Step.{building, reflecting, byTolerance, byResolution, phased, asked, withOrder, withRound, rerun, orderedOf, trialOf, reflectOf, reasonOf, doneOf, testedOf, headedOf}
 use Rattle.neldermead.specs.Parts.{verdictOf}
 use Rattle.neldermead.proofs.Cases.{verdict-cases}
 
@@ -25,19 +25,19 @@ unfolding reasonOf
 reason-cases ftol f P i j = by (lt ftol (resolution (absOf f))) (λ e. rw e i) (λ e. rw e j)
 
 -- what each phase makes of the vertices in order
-abbrev head_of : Fixed → Simplex → ℕ → Simplex
-head_of fit q p = cond (eqb p building) (rerun q) (cond (eqb p reflecting) (reflectOf fit.n q) (phased q p))
+abbrev headOf : Fixed → Simplex → ℕ → Simplex
+headOf fit q p = cond (eqb p building) (rerun q) (cond (eqb p reflecting) (reflectOf fit.n q) (phased q p))
 
 module _ (fit : Fixed) (q : Simplex) (fevals : ℕ) where
   abbrev phaseOf : ℕ
   phaseOf = verdictOf fit (convergedOf fit.options q.v fit.n) (vertexAt q.v 0).f q.rounds q.runs fevals
 
-  head-parts : head_of fit q phaseOf ≡ tested_of fit q fevals
-  unfolding tested_of done_of
+  head-parts : headOf fit q phaseOf ≡ testedOf fit q fevals
+  unfolding testedOf doneOf
   head-parts =
-      verdict-cases fit (convergedOf fit.options q.v fit.n) (vertexAt q.v 0).f q.rounds q.runs fevals (λ w. head_of fit q w ≡ tested_of fit q fevals)
+      verdict-cases fit (convergedOf fit.options q.v fit.n) (vertexAt q.v 0).f q.rounds q.runs fevals (λ w. headOf fit q w ≡ testedOf fit q fevals)
       (record {
-        ends = λ e m. rw (e, m) (reason-cases fit.options.ftol (vertexAt q.v 0).f (λ w. head_of fit q w ≡ phased q w) refl refl);
+        ends = λ e m. rw (e, m) (reason-cases fit.options.ftol (vertexAt q.v 0).f (λ w. headOf fit q w ≡ phased q w) refl refl);
         reruns = λ e m. rw (e, m);
         iterations = λ e m. rw (e, m);
         evaluations = λ e m o. rw (e, m, o);
@@ -45,15 +45,15 @@ module _ (fit : Fixed) (q : Simplex) (fevals : ℕ) where
       })
 
   -- each return of the code
-  head-reruns : (p : ℕ) → p ≡ building → phased (rerun q) p ≡ head_of fit q p
+  head-reruns : (p : ℕ) → p ≡ building → phased (rerun q) p ≡ headOf fit q p
   head-reruns p e = rw (eq-eqb p building e) (ap (phased (rerun q)) e)
 
   head-reflects : (p : ℕ) → (p ≡ building → ⊥) → p ≡ reflecting → (c x : List Float) → c ≡ centroidOf q.v fit.n → x ≡ towardsOf c (vertexAt q.v fit.n).x alpha fit.n
-      → asked (withRound q c) p q.at x ≡ head_of fit q p
+      → asked (withRound q c) p q.at x ≡ headOf fit q p
   unfolding reflectOf trialOf
   head-reflects p a e c x i j = rw (ne_eqb p building a, eq-eqb p reflecting e, ← i, ← j) (ap (λ (y : ℕ). asked (withRound q c) y q.at x) e)
 
-  head-ends : (p : ℕ) → (p ≡ building → ⊥) → (p ≡ reflecting → ⊥) → phased q p ≡ head_of fit q p
+  head-ends : (p : ℕ) → (p ≡ building → ⊥) → (p ≡ reflecting → ⊥) → phased q p ≡ headOf fit q p
   head-ends p a b = rw (ne_eqb p building a, ne_eqb p reflecting b)
 
 -- the head by what the calls gave
@@ -63,11 +63,11 @@ module _ (fit : Fixed) (s : Simplex) (fevals : ℕ) (w : List Vertex) (b : Verte
   abbrev q : Simplex
   q = withOrder s w b
 
-  by-phase : head_of fit q p ≡ headedOf fit s fevals
+  by-phase : headOf fit q p ≡ headedOf fit s fevals
   unfolding headedOf orderedOf
   by-phase =
       rw (← i, ← j)
-      (ap (head_of fit q) (l ∙ ap (λ (d : Bool). verdictOf fit d (vertexAt w 0).f s.rounds s.runs fevals) k) ∙ head-parts fit q fevals)
+      (ap (headOf fit q) (l ∙ ap (λ (d : Bool). verdictOf fit d (vertexAt w 0).f s.rounds s.runs fevals) k) ∙ head-parts fit q fevals)
 
   pub headed-reruns : p ≡ building → phased (rerun q) p ≡ headedOf fit s fevals
   headed-reruns e = head-reruns fit q fevals p e ∙ by-phase

@@ -12,8 +12,8 @@ use Rattle.neldermead_vertices.specs.declared.Vertex.{Vertex}
 use Rattle.neldermead_vertices.specs.Vertices.{vertexAt, anyFiniteOf}
 use Rattle.neldermead.specs.declared.Fixed.{Fixed}
 use Rattle.neldermead.specs.declared.Simplex.{Simplex}
-use Rattle.neldermead.specs.Step.{building, reflecting, shrinking, notFinite, vertexOf, phased, asked, withRefl, withVertex, trialOf, headedOf, buildOf, settled_of, builtOf, replacedOf, reflectedOf, expandedOf, shrinkOf, outsideOf, insideOf, shrinkingOf, toldOf}
-use Rattle.neldermead.specs.Parts.{built, keeps, outcomeOf, place_of, nextAtOf, farOf, coefficientOf, nextPointOf, nextPhaseOf}
+use Rattle.neldermead.specs.Step.{building, reflecting, shrinking, notFinite, vertexOf, phased, asked, withRefl, withVertex, trialOf, headedOf, buildOf, settledOf, builtOf, replacedOf, reflectedOf, expandedOf, shrinkOf, outsideOf, insideOf, shrinkingOf, toldOf}
+use Rattle.neldermead.specs.Parts.{built, keeps, outcomeOf, placeOf, nextAtOf, farOf, coefficientOf, nextPointOf, nextPhaseOf}
 use Rattle.neldermead.proofs.Cases.{outcome-cases}
 
 module _ (fit : Fixed) (s : Simplex) (f : Float) (fevals : ℕ) where
@@ -24,7 +24,7 @@ module _ (fit : Fixed) (s : Simplex) (f : Float) (fevals : ℕ) where
   outcome = outcomeOf s.phase s.at fit.n f (vertexAt s.v 0).f (vertexAt s.v (fit.n - 1)).f (vertexAt s.v fit.n).f s.refl.f
 
   abbrev pub place : ℕ → ℕ
-  place w = place_of s.phase s.at fit.n w
+  place w = placeOf s.phase s.at fit.n w
 
   -- the record with the reflected point; with it in the worst vertex's place; with the point told in place i
   abbrev pub noted : Simplex
@@ -33,26 +33,26 @@ module _ (fit : Fixed) (s : Simplex) (f : Float) (fevals : ℕ) where
   abbrev pub keptOf : Simplex → ℕ → Simplex
   keptOf q w = cond (eqb w keeps) (withVertex q fit.n q.refl) q
 
-  abbrev pub put_of : Simplex → ℕ → Simplex
-  put_of q i = cond (ltb i 17) (withVertex q i here) q
+  abbrev pub putOf : Simplex → ℕ → Simplex
+  putOf q i = cond (ltb i 17) (withVertex q i here) q
 
   -- the next question
-  abbrev pub next_of : Simplex → ℕ → ℕ → Simplex
-  next_of q w i =
+  abbrev pub nextOf : Simplex → ℕ → ℕ → Simplex
+  nextOf q w i =
       let at = nextAtOf q.phase q.at w in
       asked q (nextPhaseOf q.phase w) at (nextPointOf fit.options fit.n i w s.x q.cen (vertexAt q.v 0) (vertexAt q.v (farOf fit.n at w)))
 
   abbrev pub onwardOf : Simplex → ℕ → ℕ → Simplex
   onwardOf q w i =
       cond (eqb w built) (cond (anyFiniteOf q.v (fit.n + 1)) (headedOf fit q fevals) (phased q notFinite))
-      (cond (ltb shrinking w) (headedOf fit q fevals) (next_of q w i))
+      (cond (ltb shrinking w) (headedOf fit q fevals) (nextOf q w i))
 
   abbrev pub tellOf : ℕ → Simplex
-  tellOf w = onwardOf (put_of (keptOf noted w) (place w)) w (place w)
+  tellOf w = onwardOf (putOf (keptOf noted w) (place w)) w (place w)
 
   module _ (few : fit.n ≤ 16) (within : s.at ≤ fit.n) where
     pub told-parts : tellOf outcome ≡ toldOf fit s f fevals
-    unfolding toldOf builtOf buildOf settled_of reflectedOf trialOf replacedOf expandedOf shrinkOf outsideOf insideOf shrinkingOf place_of nextAtOf farOf coefficientOf nextPointOf nextPhaseOf
+    unfolding toldOf builtOf buildOf settledOf reflectedOf trialOf replacedOf expandedOf shrinkOf outsideOf insideOf shrinkingOf placeOf nextAtOf farOf coefficientOf nextPointOf nextPhaseOf
     told-parts =
         let at : ltb s.at 17 ≡ true = lt-ltb s.at 17 (omega (arith, few, within)) in
         let n : ltb fit.n 17 ≡ true = lt-ltb fit.n 17 (omega (arith, few)) in
@@ -77,7 +77,7 @@ module _ (fit : Fixed) (s : Simplex) (f : Float) (fevals : ℕ) where
 
     -- the coordinate that is displaced, and the vertex that the next point is made from
     pub corner-within : outcome ≡ building → place outcome < 16
-    unfolding place_of
+    unfolding placeOf
     corner-within =
         outcome-cases s.phase s.at fit.n f (vertexAt s.v 0).f (vertexAt s.v (fit.n - 1)).f (vertexAt s.v fit.n).f s.refl.f (λ w. w ≡ building → place w < 16)
         (record {
@@ -98,9 +98,9 @@ module _ (fit : Fixed) (s : Simplex) (f : Float) (fevals : ℕ) where
           ended = λ e z. absurd (omega (arith, z));
         })
 
-    pub far_within : farOf fit.n (nextAtOf s.phase s.at outcome) outcome < 17
+    pub far-within : farOf fit.n (nextAtOf s.phase s.at outcome) outcome < 17
     unfolding farOf nextAtOf
-    far_within =
+    far-within =
         outcome-cases s.phase s.at fit.n f (vertexAt s.v 0).f (vertexAt s.v (fit.n - 1)).f (vertexAt s.v fit.n).f s.refl.f (λ w. farOf fit.n (nextAtOf s.phase s.at w) w < 17)
         (record {
           builds = λ p m. omega (arith, few);
@@ -127,13 +127,13 @@ module _ (fit : Fixed) (s : Simplex) (f : Float) (fevals : ℕ) where
   noted-phase : noted.phase ≡ s.phase
   noted-phase = by (eqb s.phase reflecting) (λ e. rw e) (λ e. rw e)
 
-  pub put-at : (w i : ℕ) → (put_of (keptOf noted w) i).at ≡ s.at
-  put-at w i = by (ltb i 17) (λ e. rw e (kept_at w)) (λ e. rw e (kept_at w))
+  pub put-at : (w i : ℕ) → (putOf (keptOf noted w) i).at ≡ s.at
+  put-at w i = by (ltb i 17) (λ e. rw e (kept-at w)) (λ e. rw e (kept-at w))
     where
-      kept_at : (w : ℕ) → (keptOf noted w).at ≡ s.at
-      kept_at w = by (eqb w keeps) (λ e. rw e noted-at) (λ e. rw e noted-at)
+      kept-at : (w : ℕ) → (keptOf noted w).at ≡ s.at
+      kept-at w = by (eqb w keeps) (λ e. rw e noted-at) (λ e. rw e noted-at)
 
-  pub put-phase : (w i : ℕ) → (put_of (keptOf noted w) i).phase ≡ s.phase
+  pub put-phase : (w i : ℕ) → (putOf (keptOf noted w) i).phase ≡ s.phase
   put-phase w i = by (ltb i 17) (λ e. rw e (kept-phase w)) (λ e. rw e (kept-phase w))
     where
       kept-phase : (w : ℕ) → (keptOf noted w).phase ≡ s.phase
@@ -154,10 +154,10 @@ module _ (fit : Fixed) (s : Simplex) (f : Float) (fevals : ℕ) where
     pub kept-left : (w ≡ keeps → ⊥) → q ≡ keptOf q w
     kept-left e = rw (ne_eqb w keeps e)
 
-    pub put-taken : i < 17 → withVertex q i here ≡ put_of q i
+    pub put-taken : i < 17 → withVertex q i here ≡ putOf q i
     put-taken h = rw (lt-ltb i 17 h)
 
-    pub put-left : 17 ≤ i → q ≡ put_of q i
+    pub put-left : 17 ≤ i → q ≡ putOf q i
     put-left h = rw (le-ltb i 17 h)
 
     -- each return of the code
@@ -174,9 +174,9 @@ module _ (fit : Fixed) (s : Simplex) (f : Float) (fevals : ℕ) where
         → y ≡ nextPointOf fit.options fit.n i w s.x q.cen (vertexAt q.v 0) (vertexAt q.v far) → phase ≡ nextPhaseOf q.phase w → asked q phase at y ≡ onwardOf q w i
     onward-asks h at far phase y a b c d = rw (ne_eqb w built (λ z. absurd (omega (arith, h, z))), le-ltb shrinking w h, ← a, ← b, ← c, ← d)
 
-  pub told-by : fit.n ≤ 16 → s.at ≤ fit.n → (w i : ℕ) (q : Simplex) → w ≡ outcome → i ≡ place w → q ≡ put_of (keptOf noted w) i → onwardOf q w i ≡ toldOf fit s f fevals
+  pub told-by : fit.n ≤ 16 → s.at ≤ fit.n → (w i : ℕ) (q : Simplex) → w ≡ outcome → i ≡ place w → q ≡ putOf (keptOf noted w) i → onwardOf q w i ≡ toldOf fit s f fevals
   told-by few within w i q a b c =
-      ap (λ (p : Simplex). onwardOf p w i) c ∙ ap (λ (j : ℕ). onwardOf (put_of (keptOf noted w) j) w j) b ∙ ap tellOf a ∙ told-parts few within
+      ap (λ (p : Simplex). onwardOf p w i) c ∙ ap (λ (j : ℕ). onwardOf (putOf (keptOf noted w) j) w j) b ∙ ap tellOf a ∙ told-parts few within
 
   -- the same two bounds by what the calls gave
   module _ (few : fit.n ≤ 16) (within : s.at ≤ fit.n) (w : ℕ) (a : w ≡ outcome) where
@@ -187,4 +187,4 @@ module _ (fit : Fixed) (s : Simplex) (f : Float) (fevals : ℕ) where
     far-below q at far p m b c =
         subst (λ (y : ℕ). y < 17)
         (sym (c ∙ ap (λ (y : ℕ). farOf fit.n y w) (b ∙ ap (λ (y : ℕ). nextAtOf y q.at w) p ∙ ap (λ (y : ℕ). nextAtOf s.phase y w) m) ∙ ap (λ (y : ℕ). farOf fit.n (nextAtOf s.phase s.at y) y) a))
-        (far_within few within)
+        (far-within few within)

@@ -34,8 +34,8 @@ shrunk = 104
 unfoldable pub amongOf : ℕ → ℕ → ℕ → ℕ → ℕ
 amongOf at n more last = cond (ltb at n) more last
 
-unfoldable pub taken_of : Bool → ℕ → ℕ
-taken_of good otherwise = cond good takes otherwise
+unfoldable pub takenOf : Bool → ℕ → ℕ
+takenOf good otherwise = cond good takes otherwise
 
 unfoldable pub reflectionOf : Float → Float → Float → Float → ℕ
 reflectionOf f best second worst = cond (lt f best) expanding (cond (lt f second) takes (cond (lt f worst) contractingOutside contractingInside))
@@ -44,16 +44,16 @@ unfoldable pub outcomeOf : ℕ → ℕ → ℕ → Float → Float → Float →
 outcomeOf phase at n f best second worst reflected =
     cond (eqb phase building) (amongOf at n building built)
     (cond (eqb phase reflecting) (reflectionOf f best second worst)
-    (cond (eqb phase expanding) (taken_of (lt f reflected) keeps)
-    (cond (eqb phase contractingOutside) (taken_of (le f reflected) shrinking)
-    (cond (eqb phase contractingInside) (taken_of (lt f worst) shrinking)
+    (cond (eqb phase expanding) (takenOf (lt f reflected) keeps)
+    (cond (eqb phase contractingOutside) (takenOf (le f reflected) shrinking)
+    (cond (eqb phase contractingInside) (takenOf (lt f worst) shrinking)
     (cond (eqb phase shrinking) (amongOf at n shrinking shrunk)
     rests)))))
 
 -- ---- where the point told goes, and the next question
 
-unfoldable pub place_of : ℕ → ℕ → ℕ → ℕ → ℕ
-place_of phase at n what = cond (eqb phase building) at (cond (eqb phase shrinking) at (cond (eqb what takes) n 17))
+unfoldable pub placeOf : ℕ → ℕ → ℕ → ℕ → ℕ
+placeOf phase at n what = cond (eqb phase building) at (cond (eqb phase shrinking) at (cond (eqb what takes) n 17))
 
 unfoldable pub nextAtOf : ℕ → ℕ → ℕ → ℕ
 nextAtOf phase at what = cond (eqb what building) (at + 1) (cond (eqb what shrinking) (cond (eqb phase shrinking) (at + 1) 1) at)

@@ -100,19 +100,19 @@ abbrev pub rerunOrEnd : ℕ → Simplex → ℕ → Simplex
 rerunOrEnd restarts s why = cond (leb restarts s.runs) (phased s why) (rerun s)
 
 -- a run is done
-unfoldable pub done_of : SimplexOptions → Simplex → Simplex
-done_of o s = rerunOrEnd o.restarts s (reasonOf o.ftol (vertexAt s.v 0).f)
+unfoldable pub doneOf : SimplexOptions → Simplex → Simplex
+doneOf o s = rerunOrEnd o.restarts s (reasonOf o.ftol (vertexAt s.v 0).f)
 
 -- "size and spread, then max_iter, then max_fevals"
-unfoldable pub tested_of : Fixed → Simplex → ℕ → Simplex
-tested_of fit s fevals =
-    cond (convergedOf fit.options s.v fit.n) (done_of fit.options s)
+unfoldable pub testedOf : Fixed → Simplex → ℕ → Simplex
+testedOf fit s fevals =
+    cond (convergedOf fit.options s.v fit.n) (doneOf fit.options s)
     (cond (leb fit.iter s.rounds) (phased s bySimplexIterations)
     (cond (leb fit.fevals fevals) (phased s bySimplexFevals)
     (reflectOf fit.n s)))
 
 unfoldable pub headedOf : Fixed → Simplex → ℕ → Simplex
-headedOf fit s fevals = tested_of fit (orderedOf fit.n s) fevals
+headedOf fit s fevals = testedOf fit (orderedOf fit.n s) fevals
 
 -- ---- a new simplex
 
@@ -121,13 +121,13 @@ unfoldable pub buildOf : Float → Simplex → ℕ → Simplex
 buildOf initial s i = asked s s.phase (i + 1) (cornerOf initial (vertexAt s.v 0).x i)
 
 -- all vertices are told
-unfoldable pub settled_of : Fixed → Simplex → ℕ → Simplex
-settled_of fit s fevals = cond (anyFiniteOf s.v (fit.n + 1)) (headedOf fit s fevals) (phased s notFinite)
+unfoldable pub settledOf : Fixed → Simplex → ℕ → Simplex
+settledOf fit s fevals = cond (anyFiniteOf s.v (fit.n + 1)) (headedOf fit s fevals) (phased s notFinite)
 
 unfoldable pub builtOf : Fixed → Simplex → Float → ℕ → Simplex
 builtOf fit s f fevals =
     let q = withVertex s s.at (vertexOf s.x f) in
-    cond (ltb s.at fit.n) (buildOf fit.options.step q s.at) (settled_of fit q fevals)
+    cond (ltb s.at fit.n) (buildOf fit.options.step q s.at) (settledOf fit q fevals)
 
 -- ---- a round
 
@@ -178,7 +178,7 @@ toldOf fit s f fevals =
     s)))))
 
 -- best_x = x0, best_f = infinity, and the first vertex of the first simplex is asked for
-unfoldable pub start_of : List Float → Simplex
-start_of x =
+unfoldable pub startOf : List Float → Simplex
+startOf x =
     let u = vertexOf (replicate 16 plusZero) plusZero in
     record { phase = building; at = 0; rounds = 0; runs = 0; x = x; best = vertexOf x (inf false); cen = replicate 16 plusZero; refl = u; v = replicate 17 u }

@@ -1,8 +1,8 @@
 // Nelder and Mead's simplex, one answer at a time. Each move takes the value told for the open
 // question, and gives the record with the next question or the end in it.
 ghost use Rattle.std.specs.Prelude.{◌≡◌, ◌≤◌, ◌<◌};
-ghost use Rattle.neldermead.specs.Step.{building, reasonOf, headedOf, toldOf, start_of};
-ghost use Rattle.neldermead.specs.Parts.{amongOf, taken_of, reflectionOf, outcomeOf, place_of, nextAtOf, farOf, coefficientOf, nextPointOf, nextPhaseOf, verdictOf};
+ghost use Rattle.neldermead.specs.Step.{building, reasonOf, headedOf, toldOf, startOf};
+ghost use Rattle.neldermead.specs.Parts.{amongOf, takenOf, reflectionOf, outcomeOf, placeOf, nextAtOf, farOf, coefficientOf, nextPointOf, nextPhaseOf, verdictOf};
 
 use neldermead_vertices::Vertex;
 use protocol::SimplexOptions;
@@ -89,7 +89,7 @@ fn among(at: usize, n: usize, more: u64, last: u64) -> u64
 
 // By whether the point told is good enough to be taken.
 fn taken(good: bool, otherwise: u64) -> u64
-    ensures { result ≡ taken_of good otherwise }
+    ensures { result ≡ takenOf good otherwise }
 {
     if good {
         return TAKES;
@@ -149,7 +149,7 @@ fn outcome(
 
 // The place among the vertices of the point told; 17 where it has none.
 fn place(phase: u64, at: usize, n: usize, what: u64) -> usize
-    ensures { result ≡ place_of phase at n what }
+    ensures { result ≡ placeOf phase at n what }
 {
     if phase == BUILDING {
         return at;
@@ -358,7 +358,7 @@ pub fn told(fit: Fixed, s: Simplex, f: f64, fevals: u64) -> Simplex
 
 // The start at x: the first vertex of the first simplex is asked for.
 pub fn start(x: [f64; 16]) -> Simplex
-    ensures { result ≡ start_of x }
+    ensures { result ≡ startOf x }
 {
     let zero = [0.0; 16];
     let best = Vertex { x, f: 1.0 / 0.0 };

@@ -24,5 +24,5 @@ gradientless-laws =
 pub claim : SimplexClaim
 claim = claim-of-rounds (fits nelderMead gradientless) (fits-laws nelderMead gradientless laws gradientless-laws)
 
-pub at_most : SimplexCounts gradientless
-at_most = counts gradientless
+pub at-most : SimplexCounts gradientless
+at-most = counts gradientless

@@ -18,10 +18,10 @@ use Rattle.protocol.specs.Dialogue.{ofKind, run}
 use Rattle.protocol.specs.Claim.{Limit, limit, ◌⊑◌}
 use Rattle.protocol.specs.Ask.{Ask}
 use Rattle.protocol.specs.Rounds.{Ending, restart, Rounds, FitLimits, reached, limitsOf, engine}
-use Rattle.protocol.specs.Bounds.{Costs, Keeps, of_both, BoundLaws, QuestionsAtMost}
+use Rattle.protocol.specs.Bounds.{Costs, Keeps, ofBoth, BoundLaws, QuestionsAtMost}
 use Rattle.protocol.specs.Fits.{fits}
 use Rattle.protocol.proofs.Verdicts.{stop≢restart, go-on≢restart, restart-inj}
-use Rattle.protocol.proofs.Bounds.{keeps-by-cost, all-questions, questions-at-most, none-used, one_left}
+use Rattle.protocol.proofs.Bounds.{keeps-by-cost, all-questions, questions-at-most, none-used, one-left}
 use Rattle.protocol.proofs.FitsBounds.{simplex-bounds}
 use Rattle.neldermead_theory.specs.Algorithm.{SimplexPosition, build, round, tests, rerun, opening, nowhere, nelderMead}
 use Rattle.neldermead_theory.specs.Counts.{byFevals, byIterations, SimplexBounds, SimplexCounts}
@@ -33,8 +33,8 @@ use Rattle.neldermead_theory.proofs.CountsTexts.{Sized, End, build-costs, round-
 -- `cap r i` is what the count may come to after r runs and i iterations; R restarts
 pub record Cap (κ : Kind) (n R : ℕ) (l : FitLimits) (bound : ℕ) (cap : ℕ → ℕ → ℕ) : Type 0 where
   pub first-room : suc n * ofKind κ Value ≤ cap 0 0
-  pub run_room : (r i : ℕ) → cap r i + suc n * ofKind κ Value ≤ cap (suc r) i
-  pub round_room : (r i v g : ℕ) → of_both κ v g ≤ cap r i → limit (suc v) ⊑ l.fevals → of_both κ v g + suc (suc n) * ofKind κ Value ≤ cap r (suc i)
+  pub run-room : (r i : ℕ) → cap r i + suc n * ofKind κ Value ≤ cap (suc r) i
+  pub round-room : (r i v g : ℕ) → ofBoth κ v g ≤ cap r i → limit (suc v) ⊑ l.fevals → ofBoth κ v g + suc (suc n) * ofKind κ Value ≤ cap r (suc i)
   pub in-bound : (r i : ℕ) → r ≤ R → limit i ⊑ l.iter → cap r i ≤ bound
 
 module _ (κ : Kind) (o : SimplexOptions) (x : List Float) (l : FitLimits) (bound : ℕ) (cap : ℕ → ℕ → ℕ) (K : Cap κ (length x) o.restarts l bound cap) where
@@ -71,16 +71,16 @@ module _ (κ : Kind) (o : SimplexOptions) (x : List Float) (l : FitLimits) (boun
       (keeps k (suc n * ofKind κ Value) (suc p.runs) p.iterations (build (rerun p) p.best.x)
       (build-costs κ n R (rerun p) h.0.restarts h.0.best-long p.best.x h.0.best-long)
       (omega (arith, h.0.restarts, nleb→lt p.options.restarts p.runs (false-T (leb p.options.restarts p.runs) i)))
-      h.2 (omega (arith, h.3, K.run_room p.runs p.iterations))))
+      h.2 (omega (arith, h.3, K.run-room p.runs p.iterations))))
       (λ e. absurd (go-on≢restart e))
 
-  rounds : (v g : ℕ) (p : SimplexPosition) → Head (of_both κ v g) p → reached p.iterations l.iter ≡ false → reached v l.fevals ≡ false → Keeps κ bound Head (of_both κ v g) (round p)
+  rounds : (v g : ℕ) (p : SimplexPosition) → Head (ofBoth κ v g) p → reached p.iterations l.iter ≡ false → reached v l.fevals ≡ false → Keeps κ bound Head (ofBoth κ v g) (round p)
   rounds v g p h i j =
-      keeps (of_both κ v g) (suc (suc n) * ofKind κ Value) p.runs (suc p.iterations) (round p) (round-costs κ n R p h.0) h.1 (one_left p.iterations l.iter i)
-      (K.round_room p.runs p.iterations v g h.3 (one_left v l.fevals j))
+      keeps (ofBoth κ v g) (suc (suc n) * ofKind κ Value) p.runs (suc p.iterations) (round p) (round-costs κ n R p h.0) h.1 (one-left p.iterations l.iter i)
+      (K.round-room p.runs p.iterations v g h.3 (one-left v l.fevals j))
 
   capped : BoundLaws nelderMead κ bound l o x
-  capped = record { Head = Head; opening-keeps = opens; restart-keeps = restarts; round_keeps = rounds }
+  capped = record { Head = Head; opening-keeps = opens; restart-keeps = restarts; round-keeps = rounds }
 
 -- ---- the two bounds
 
@@ -93,8 +93,8 @@ module _ (o : SimplexOptions) (x : List Float) (l : FitLimits) where
       capped Gradient o x l 0 (λ r i. 0)
       (record {
         first-room = le_of_eq (mul-zero (suc unknowns));
-        run_room = λ r i. omega (arith, mul-zero (suc unknowns));
-        round_room = λ r i v g a b. omega (arith, mul-zero (suc (suc unknowns)));
+        run-room = λ r i. omega (arith, mul-zero (suc unknowns));
+        round-room = λ r i v g a b. omega (arith, mul-zero (suc (suc unknowns)));
         in-bound = λ r i a b. zero-le;
       })
 
@@ -103,8 +103,8 @@ module _ (o : SimplexOptions) (x : List Float) (l : FitLimits) where
       capped Value o x l (byFevals M o x) (λ r i. M + suc r * suc unknowns)
       (record {
         first-room = omega (arith, mul-one (suc unknowns), one-mul (suc unknowns));
-        run_room = λ r i. omega (arith, mul-one (suc unknowns), suc-mul (suc r) (suc unknowns));
-        round_room = λ r i v g a b.
+        run-room = λ r i. omega (arith, mul-one (suc unknowns), suc-mul (suc r) (suc unknowns));
+        round-room = λ r i v g a b.
             let few : suc v ≤ M = subst (λ (z : Limit). limit (suc v) ⊑ z) e b in
             omega (arith, mul-one (suc (suc unknowns)), suc-mul r (suc unknowns));
         in-bound = λ r i a b. omega (arith, mul-le-mul_right (suc unknowns) (suc-le-suc a));
@@ -115,8 +115,8 @@ module _ (o : SimplexOptions) (x : List Float) (l : FitLimits) where
       capped Value o x l (byIterations I o x) (λ r i. suc r * suc unknowns + i * suc (suc unknowns))
       (record {
         first-room = omega (arith, mul-one (suc unknowns), one-mul (suc unknowns));
-        run_room = λ r i. omega (arith, mul-one (suc unknowns), suc-mul (suc r) (suc unknowns));
-        round_room = λ r i v g a b. omega (arith, mul-one (suc (suc unknowns)), suc-mul i (suc (suc unknowns)));
+        run-room = λ r i. omega (arith, mul-one (suc unknowns), suc-mul (suc r) (suc unknowns));
+        round-room = λ r i v g a b. omega (arith, mul-one (suc (suc unknowns)), suc-mul i (suc (suc unknowns)));
         in-bound = λ r i a b.
             let few : i ≤ I = subst (λ (z : Limit). limit i ⊑ z) e b in
             omega (arith, mul-le-mul_right (suc unknowns) (suc-le-suc a), mul-le-mul_right (suc (suc unknowns)) few);

@@ -24,8 +24,8 @@ use Rattle.neldermead_vertices.specs.Method.{better, alpha, beta, gamma, delta}
 use Rattle.neldermead_vertices.proofs.Insertion.{length-in-order}
 use Rattle.neldermead_theory.specs.Algorithm.{SimplexPosition, vertex, arrive, replaced, butLast, others, askVertex, askVertices, anyFinite, built, build, corners, centroid, towards, shrink, expand, contractOutside, contractInside, reflected, iterated, round}
 use Rattle.neldermead_theory.specs.Laws.{All}
-use Rattle.neldermead_theory.proofs.Order.{order_from, getD-cases, butlast-from, others-from}
-use Rattle.neldermead_theory.proofs.LawsTold.{all_cons, all_nil, all_append}
+use Rattle.neldermead_theory.proofs.Order.{order-from, getD-cases, butlast-from, others-from}
+use Rattle.neldermead_theory.proofs.LawsTold.{all-cons, all-nil, all-append}
 use Rattle.neldermead_theory.proofs.CountsLengths.{Long, shrunk-long, vertex-long, towards-long, corners-many, corner-long, replaced-length, others-length}
 
 -- R is how often the fit restarts
@@ -45,13 +45,13 @@ module _ (κ : Kind) (n R : ℕ) where
 
   vertices-cost : (xs : List (List Float)) → ((x : List Float) → Memᴰ x xs → length x ≡ n) → Costs κ (length xs * u) (askVertices xs) (Made (length xs))
   unfolding askVertices
-  vertices-cost [] h = (all_nil (Long n), refl)
+  vertices-cost [] h = (all-nil (Long n), refl)
   vertices-cost (x ∷ xs) h =
       costs-more κ (u + (length xs * u + 0)) (suc (length xs) * u) (askVertex x >>= λ w. askVertices xs >>= λ us. finish (w ∷ us)) (Made (suc (length xs)))
       (omega (arith, suc-mul (length xs) u))
       (costs-bind κ u (length xs * u + 0) (askVertex x) (λ w. askVertices xs >>= λ us. finish (w ∷ us)) (Long n) (Made (suc (length xs))) (vertex-costs x (h x (Memᴰ.head refl)))
       (λ w l. costs-bind κ (length xs * u) 0 (askVertices xs) (λ us. finish (w ∷ us)) (Made (length xs)) (Made (suc (length xs))) (vertices-cost xs (λ y m. h y (Memᴰ.tail m)))
-      (λ us k. (all_cons (Long n) w us l k.0, ap suc k.1))))
+      (λ us k. (all-cons (Long n) w us l k.0, ap suc k.1))))
 
   -- ---- heads
 
@@ -83,8 +83,8 @@ module _ (κ : Kind) (n R : ℕ) where
         restarts = again;
         best-long =
             let first = get_or (inOrder us) 0 p.best in
-            either (lt first.f p.best.f) first p.best (⊎_elim (λ m. h first (order_from us first m)) (λ i. subst (Long n) (sym i) best) (getD-cases (inOrder us) 0 p.best)) best;
-        vertices-long = λ w m. h w (order_from us w m);
+            either (lt first.f p.best.f) first p.best (⊎_elim (λ m. h first (order-from us first m)) (λ i. subst (Long n) (sym i) best) (getD-cases (inOrder us) 0 p.best)) best;
+        vertices-long = λ w m. h w (order-from us w m);
         shape = length-in-order us ∙ l;
       },
       refl,
@@ -119,7 +119,7 @@ module _ (κ : Kind) (n R : ℕ) where
       replaced-end : (w : Vertex) → Long n w → Q (replaced p w)
       replaced-end w l =
           arrive-end (butLast p.vertices ++ (w ∷ []))
-          (all_append (Long n) (butLast p.vertices) (w ∷ []) (λ v m. all v (butlast-from p.vertices v m)) (all_cons (Long n) w [] l (all_nil (Long n))))
+          (all-append (Long n) (butLast p.vertices) (w ∷ []) (λ v m. all v (butlast-from p.vertices v m)) (all-cons (Long n) w [] l (all-nil (Long n))))
           (replaced-length p.vertices w n shape)
 
       -- a vertex drawn to the best
@@ -137,7 +137,7 @@ module _ (κ : Kind) (n R : ℕ) where
           (costs-more κ (length points * u + 0) (length points * u) (shrink p) Q (omega arith)
           (costs-bind κ (length points * u) 0 (askVertices points) (λ us. finish (atHead (arrive p (vertex p 0 ∷ us)))) (Made (length points)) Q
           (vertices-cost points drawn-long)
-          (λ us m. arrive-end (vertex p 0 ∷ us) (all_cons (Long n) (vertex p 0) us (vertex-long n p best all 0) m.0) (ap suc (m.1 ∙ count)))))
+          (λ us m. arrive-end (vertex p 0 ∷ us) (all-cons (Long n) (vertex p 0) us (vertex-long n p best all 0) m.0) (ap suc (m.1 ∙ count)))))
         where
           points : List (List Float)
           points = map drawn (others p.vertices)

@@ -7,7 +7,7 @@ use mathlib.Core.List.{List, ◌∷◌, []}
 use lib.Ieee.{Float}
 use Rattle.vector.specs.Lists.{first}
 use Rattle.vector.proofs.First.{point-laws}
-use Rattle.protocol.specs.Protocol.{read_of}
+use Rattle.protocol.specs.Protocol.{readOf}
 use Rattle.protocol.specs.declared.GradientOptions.{GradientOptions}
 use Rattle.protocol.specs.Rounds.{atHead, stops, fails, Verdict, goOn, stop, restart, Rounds, FitLimits, reached}
 use Rattle.protocol.specs.Fits.{mapVerdict, Positions, fits}
@@ -15,9 +15,9 @@ use Rattle.protocol.specs.Places.{Turn, still, ends, Steps, allowedTurn, headedT
 use Rattle.neldermead.specs.declared.Fixed.{Fixed}
 use Rattle.neldermead.specs.declared.Simplex.{Simplex}
 use Rattle.neldermead_theory.specs.Algorithm.{SimplexPosition, tests, nowhere, nelderMead}
-use Rattle.neldermead_theory.specs.Phases.{Phase, building, reflecting, expanding, outside, inside, shrinking, point_of, Move, move, step_of, buildAt, simplexSteps}
-use Rattle.neldermead.specs.Step.{builtOf, reflectedOf, expandedOf, outsideOf, insideOf, shrinkingOf, toldOf, start_of}
-use Rattle.neldermead_theory.specs.Follows.{SimplexShaped, mark_of, Related, RelatedMove, allowedMove, headedMove, settledMove, SimplexSettlesAsFits, SimplexAllows, SimplexFollows}
+use Rattle.neldermead_theory.specs.Phases.{Phase, building, reflecting, expanding, outside, inside, shrinking, pointOf, Move, move, stepOf, buildAt, simplexSteps}
+use Rattle.neldermead.specs.Step.{builtOf, reflectedOf, expandedOf, outsideOf, insideOf, shrinkingOf, toldOf, startOf}
+use Rattle.neldermead_theory.specs.Follows.{SimplexShaped, markOf, Related, RelatedMove, allowedMove, headedMove, settledMove, SimplexSettlesAsFits, SimplexAllows, SimplexFollows}
 use Rattle.neldermead_theory.proofs.FollowsShape.{start-shaped, told-shaped, start-zeros, told-zeros}
 use Rattle.neldermead_theory.proofs.FollowsBuild.{built-follows}
 use Rattle.neldermead_theory.proofs.FollowsShrink.{shrinking-follows}
@@ -47,8 +47,8 @@ settles-as-fits B SB l v (ends (fails k d)) = refl
 
 -- ---- the start, and an answer
 
-starts : (fit : Fixed) (x : List Float) → RelatedMove fit (start_of x) (buildAt (nowhere fit.options (first fit.n x)) (first fit.n x))
-unfolding start_of
+starts : (fit : Fixed) (x : List Float) → RelatedMove fit (startOf x) (buildAt (nowhere fit.options (first fit.n x)) (first fit.n x))
+unfolding startOf
 starts fit x =
     record {
       mark = refl;
@@ -59,15 +59,15 @@ starts fit x =
 
 module _ (fit : Fixed) (s : Simplex) (f : Float) (v : ℕ) where
   -- what the record does at a phase's mark
-  abbrev at_mark : Phase → Simplex
-  at_mark (building p us x xs) = builtOf fit s f v
-  at_mark (reflecting p) = reflectedOf fit s f v
-  at_mark (expanding p r) = expandedOf fit s f v
-  at_mark (outside p r) = outsideOf fit s f v
-  at_mark (inside p) = insideOf fit s f v
-  at_mark (shrinking p us x xs) = shrinkingOf fit s f v
+  abbrev at-mark : Phase → Simplex
+  at-mark (building p us x xs) = builtOf fit s f v
+  at-mark (reflecting p) = reflectedOf fit s f v
+  at-mark (expanding p r) = expandedOf fit s f v
+  at-mark (outside p r) = outsideOf fit s f v
+  at-mark (inside p) = insideOf fit s f v
+  at-mark (shrinking p us x xs) = shrinkingOf fit s f v
 
-  by-mark : (ph : Phase) → s.phase ≡ mark_of ph → toldOf fit s f v ≡ at_mark ph
+  by-mark : (ph : Phase) → s.phase ≡ markOf ph → toldOf fit s f v ≡ at-mark ph
   unfolding toldOf
   by-mark (building p us x xs) e = rw e
   by-mark (reflecting p) e = rw e
@@ -77,17 +77,17 @@ module _ (fit : Fixed) (s : Simplex) (f : Float) (v : ℕ) where
   by-mark (shrinking p us x xs) e = rw e
 
   module _ (l : FitLimits) (allows : SimplexAllows fit l) (h : SimplexShaped fit.n s) where
-    moved : (ph : Phase) → Related fit s ph → RelatedMove fit (at_mark ph) (settledMove l v (move ph (record { x = point_of ph; f = f })))
+    moved : (ph : Phase) → Related fit s ph → RelatedMove fit (at-mark ph) (settledMove l v (move ph (record { x = pointOf ph; f = f })))
     moved (building p us x xs) r = built-follows fit l allows v s h p us x xs r f
-    moved (reflecting p) r = reflected-follows fit l allows v h.positive h.small s h.many f p (point_of (reflecting p)) r.point r.position r.holds
-    moved (expanding p w) r = expanded-follows fit l allows v h.positive h.small s h.many f p (point_of (expanding p w)) r.point r.position w r.holds
-    moved (outside p w) r = outside-follows fit l allows v h.positive h.small s h.many f p (point_of (outside p w)) r.point r.position w r.holds
-    moved (inside p) r = inside-follows fit l allows v h.positive h.small s h.many f p (point_of (inside p)) r.point r.position r.holds
+    moved (reflecting p) r = reflected-follows fit l allows v h.positive h.small s h.many f p (pointOf (reflecting p)) r.point r.position r.holds
+    moved (expanding p w) r = expanded-follows fit l allows v h.positive h.small s h.many f p (pointOf (expanding p w)) r.point r.position w r.holds
+    moved (outside p w) r = outside-follows fit l allows v h.positive h.small s h.many f p (pointOf (outside p w)) r.point r.position w r.holds
+    moved (inside p) r = inside-follows fit l allows v h.positive h.small s h.many f p (pointOf (inside p)) r.point r.position r.holds
     moved (shrinking p us x xs) r = shrinking-follows fit l allows v s h p us x xs r f
 
 follows : (fit : Fixed) (l : FitLimits) (s : Simplex) (ph : Phase) → SimplexAllows fit l → SimplexShaped fit.n s → Related fit s ph
-    → (w : Float) (v : ℕ) → RelatedMove fit (toldOf fit s (read_of w) v) (settledMove l v (step_of ph (w ∷ [])))
-follows fit l s ph allows shape r w v = rw (by-mark fit s (read_of w) v ph r.mark) (moved fit s (read_of w) v l allows shape ph r)
+    → (w : Float) (v : ℕ) → RelatedMove fit (toldOf fit s (readOf w) v) (settledMove l v (stepOf ph (w ∷ [])))
+follows fit l s ph allows shape r w v = rw (by-mark fit s (readOf w) v ph r.mark) (moved fit s (readOf w) v l allows shape ph r)
 
 pub simplex-follows : SimplexFollows
 simplex-follows = record { starts = starts; follows = follows; start-shaped = start-shaped; told-shaped = told-shaped; start-zeros = start-zeros; told-zeros = told-zeros }

@@ -19,7 +19,7 @@ use Rattle.neldermead.specs.declared.Simplex.{Simplex}
 use Rattle.neldermead_theory.specs.Algorithm.{SimplexPosition, arrive, corners, anyFinite}
 use Rattle.neldermead_theory.specs.Phases.{building, buildOn}
 use Rattle.neldermead_vertices.specs.Vertices.{noVertex, vertexAt, anyFiniteOf}
-use Rattle.neldermead.specs.Step.{notFinite, vertexOf, withVertex, phased, headedOf, buildOf, settled_of, builtOf}
+use Rattle.neldermead.specs.Step.{notFinite, vertexOf, withVertex, phased, headedOf, buildOf, settledOf, builtOf}
 use Rattle.neldermead_theory.specs.Ties.{loweredTo, VerticesTied}
 use Rattle.neldermead_theory.specs.Follows.{SimplexShaped, seedOf, Related, RelatedMove, settledMove, SimplexAllows}
 use Rattle.neldermead_theory.proofs.Ties.{vertices-tied}
@@ -46,14 +46,14 @@ module _ (fit : Fixed) (l : FitLimits) (allows : SimplexAllows fit l) (v : ℕ) 
   tied : VerticesTied fit.n s.v
   tied = vertices-tied fit.n s.v shape.small shape.many
 
-  at_room : s.at < 17
-  at_room = omega (arith, shape.within, shape.small)
+  at-room : s.at < 17
+  at-room = omega (arith, shape.within, shape.small)
 
   next-many : length (set s.v s.at new) ≡ 17
   next-many = length-set s.v s.at new ∙ shape.many
 
   told : vertices ≡ loweredTo fit.n (suc s.at) (set s.v s.at new)
-  told = rw (related.holds.told, ← related.point) (sym (tied.set_next s.at new at_room))
+  told = rw (related.holds.told, ← related.point) (sym (tied.set-next s.at new at-room))
 
   -- the seed stays the same
   seeded : seed ≡ seedOf s
@@ -90,8 +90,8 @@ module _ (fit : Fixed) (l : FitLimits) (allows : SimplexAllows fit l) (v : ℕ) 
       })
 
   -- the last vertex is told
-  whole : fit.n ≤ s.at → RelatedMove fit (settled_of fit next v) (settledMove l v (buildOn p vertices xs))
-  unfolding settled_of
+  whole : fit.n ≤ s.at → RelatedMove fit (settledOf fit next v) (settledMove l v (buildOn p vertices xs))
+  unfolding settledOf
   whole h =
       let n16 = vertices-tied fit.n (set s.v s.at new) shape.small next-many in
       let end : s.at ≡ fit.n = omega (arith, shape.within) in
@@ -111,6 +111,6 @@ module _ (fit : Fixed) (l : FitLimits) (allows : SimplexAllows fit l) (v : ℕ) 
   unfolding builtOf
   built-follows = go (ltb s.at fit.n) refl
     where
-      go : (b : Bool) → ltb s.at fit.n ≡ b → RelatedMove fit (cond b (buildOf fit.options.step next s.at) (settled_of fit next v)) (settledMove l v (buildOn p vertices xs))
+      go : (b : Bool) → ltb s.at fit.n ≡ b → RelatedMove fit (cond b (buildOf fit.options.step next s.at) (settledOf fit next v)) (settledMove l v (buildOn p vertices xs))
       go true e = more (ltb-true s.at fit.n e)
       go false e = whole (ltb-false s.at fit.n e)

@@ -22,7 +22,7 @@ use Rattle.neldermead_vertices.specs.Method.{resolution}
 use Rattle.neldermead_theory.specs.Algorithm.{SimplexPosition, arrive, butLast, replaced, build, iterated, rerun, converged, reason, tests}
 use Rattle.neldermead_theory.specs.Phases.{reflecting, buildAt}
 use Rattle.neldermead_vertices.specs.Vertices.{vertexAt, sortedOf, convergedOf}
-use Rattle.neldermead.specs.Step.{byTolerance, byResolution, bySimplexIterations, bySimplexFevals, phased, rerun as reran, withVertex, orderedOf, trialOf, reflectOf, reasonOf, done_of, tested_of, headedOf, replacedOf}
+use Rattle.neldermead.specs.Step.{byTolerance, byResolution, bySimplexIterations, bySimplexFevals, phased, rerun as reran, withVertex, orderedOf, trialOf, reflectOf, reasonOf, doneOf, testedOf, headedOf, replacedOf}
 use Rattle.neldermead_theory.specs.Ties.{lowered, loweredTo, Reads, VerticesTied}
 use Rattle.neldermead_theory.specs.Follows.{AtPosition, Related, StoppedBy, Stopped, RelatedMove, allowedMove, headedMove, settledMove, SimplexAllows}
 use Rattle.neldermead_theory.proofs.Ties.{vertices-tied}
@@ -75,29 +75,29 @@ module _ (fit : Fixed) (l : FitLimits) (allows : SimplexAllows fit l) (v : ℕ) 
     by-reason true = stopped byResolution ObjectiveResolution refl
     by-reason false = stopped byTolerance SimplexTolerance refl
 
-    over_by : reached p.iterations l.iter ≡ leb fit.iter s.rounds
-    over_by = rw (allows.iter, at.iterations)
+    over-by : reached p.iterations l.iter ≡ leb fit.iter s.rounds
+    over-by = rw (allows.iter, at.iterations)
 
-    full_by : reached v l.fevals ≡ leb fit.fevals v
-    full_by = rw allows.fevals
+    full-by : reached v l.fevals ≡ leb fit.fevals v
+    full-by = rw allows.fevals
 
-    by_tests : (done last low : Bool) (m : Ask (Ending SimplexPosition))
+    by-tests : (done last low : Bool) (m : Ask (Ending SimplexPosition))
         → RelatedMove fit
         (cond done (cond last (phased s (cond low byResolution byTolerance)) (reran s))
         (cond (leb fit.iter s.rounds) (phased s bySimplexIterations) (cond (leb fit.fevals v) (phased s bySimplexFevals) (reflectOf fit.n s))))
         (headedMove l v (cond done (cond last (stop (cond low ObjectiveResolution SimplexTolerance)) (restart m)) goOn) p)
-    by_tests true true low m = by-reason low
-    by_tests true false low m = reran-related
-    by_tests false last low m = rw (over_by, full_by) (by-limits (leb fit.iter s.rounds) (leb fit.fevals v))
+    by-tests true true low m = by-reason low
+    by-tests true false low m = reran-related
+    by-tests false last low m = rw (over-by, full-by) (by-limits (leb fit.iter s.rounds) (leb fit.fevals v))
 
-    tested-follows : RelatedMove fit (tested_of fit s v) (headedMove l v (tests p) p)
-    unfolding tested_of done_of reasonOf
+    tested-follows : RelatedMove fit (testedOf fit s v) (headedMove l v (tests p) p)
+    unfolding testedOf doneOf reasonOf
     tested-follows =
         let b = lt fit.options.ftol (resolution (absOf (vertexAt s.v 0).f)) in
         let done : converged p ≡ convergedOf fit.options s.v fit.n = sym (tied.converged-of fit.options p reads) in
         let last : leb p.options.restarts p.runs ≡ leb fit.options.restarts s.runs = rw (at.options, at.runs) in
         let low : reason p ≡ cond b ObjectiveResolution SimplexTolerance = sym (tied.reason-of fit.options p reads) in
-        rw (done, last, low) (by_tests (convergedOf fit.options s.v fit.n) (leb fit.options.restarts s.runs) b (build (rerun p) p.best.x))
+        rw (done, last, low) (by-tests (convergedOf fit.options s.v fit.n) (leb fit.options.restarts s.runs) b (build (rerun p) p.best.x))
 
   -- ---- the order
   module _ (s : Simplex) (p : SimplexPosition) (us : List Vertex) (many : length s.v ≡ 17) (at : AtPosition fit s p) (same : us ≡ loweredTo fit.n (suc fit.n) s.v) where
@@ -108,7 +108,7 @@ module _ (fit : Fixed) (l : FitLimits) (allows : SimplexAllows fit l) (v : ℕ) 
     sorted-many = (vertices-tied fit.n s.v small many).sorted-many
 
     ordered : inOrder us ≡ loweredTo fit.n (suc fit.n) sorted
-    ordered = ap inOrder same ∙ sym (vertices-tied fit.n s.v small many).sorted_of
+    ordered = ap inOrder same ∙ sym (vertices-tied fit.n s.v small many).sorted-of
 
     arrived : AtPosition fit (orderedOf fit.n s) (arrive p us)
     unfolding orderedOf arrive
@@ -132,4 +132,4 @@ module _ (fit : Fixed) (l : FitLimits) (allows : SimplexAllows fit l) (v : ℕ) 
   unfolding replacedOf
   replaced-follows s p u w many at same e =
       headed-follows (withVertex s fit.n u) p (butLast p.vertices ++ (w ∷ [])) (length-set s.v fit.n u ∙ many) (carried fit s (withVertex s fit.n u) p refl refl refl at)
-      (rw (same, e) (sym ((vertices-tied fit.n s.v small many).set_last u)))
+      (rw (same, e) (sym ((vertices-tied fit.n s.v small many).set-last u)))

@@ -20,11 +20,11 @@ use Rattle.neldermead.specs.declared.Fixed.{Fixed}
 use Rattle.neldermead.specs.declared.Simplex.{Simplex}
 use Rattle.neldermead_vertices.specs.Method.{alpha, beta, gamma}
 use Rattle.neldermead_theory.specs.Algorithm.{SimplexPosition, vertex, replaced, towards}
-use Rattle.neldermead_theory.specs.Phases.{Phase, Move, expanding, outside, inside, point_of, drawn, shrinkOn, reflectOn}
+use Rattle.neldermead_theory.specs.Phases.{Phase, Move, expanding, outside, inside, pointOf, drawn, shrinkOn, reflectOn}
 use Rattle.neldermead_vertices.specs.Vertices.{noVertex, vertexAt}
 use Rattle.neldermead.specs.Step.{expanding as expandingMark, contractingOutside, contractingInside, vertexOf, withRefl, trialOf, replacedOf, reflectedOf, expandedOf, shrinkOf, outsideOf, insideOf}
 use Rattle.neldermead_theory.specs.Ties.{lowered, VerticesTied}
-use Rattle.neldermead_theory.specs.Follows.{AtPosition, InRound, InTrial, Holds, mark_of, position_of, Related, RelatedMove, settledMove, SimplexAllows}
+use Rattle.neldermead_theory.specs.Follows.{AtPosition, InRound, InTrial, Holds, markOf, positionOf, Related, RelatedMove, settledMove, SimplexAllows}
 use Rattle.neldermead_theory.proofs.Ties.{vertices-tied}
 use Rattle.neldermead_theory.proofs.FollowsHead.{carried, replaced-follows}
 use Rattle.neldermead_theory.proofs.FollowsShrink.{draw-follows}
@@ -114,7 +114,7 @@ module _ (fit : Fixed) (l : FitLimits) (allows : SimplexAllows fit l) (v : ℕ) 
       next-trial k t = record { round = record { vertices = round.vertices; middle = round.middle }; trial = seen }
 
       -- the question at the trial point with the coefficient c
-      trial-related : (k : ℕ) (c : SimplexOptions → ℕ → Float) (ph : Phase) → k ≡ mark_of ph → towards p (c p.options p.n) ≡ point_of ph → position_of ph ≡ p
+      trial-related : (k : ℕ) (c : SimplexOptions → ℕ → Float) (ph : Phase) → k ≡ markOf ph → towards p (c p.options p.n) ≡ pointOf ph → positionOf ph ≡ p
           → Holds fit (trialOf fit.n next k (c fit.options fit.n)) ph → Related fit (trialOf fit.n next k (c fit.options fit.n)) ph
       unfolding trialOf
       trial-related k c ph m y q h =
@@ -127,15 +127,15 @@ module _ (fit : Fixed) (l : FitLimits) (allows : SimplexAllows fit l) (v : ℕ) 
           }
 
       -- the values that it is held to
-      below_at : (i j : ℕ) → j ≡ i → i ≤ fit.n → lt f (vertex p j).f ≡ lt f (vertexAt s.v i).f
-      below_at i j e h = rw e (ap (λ (u : Vertex). lt f u.f) (same-vertex s many p position round i h))
+      below-at : (i j : ℕ) → j ≡ i → i ≤ fit.n → lt f (vertex p j).f ≡ lt f (vertexAt s.v i).f
+      below-at i j e h = rw e (ap (λ (u : Vertex). lt f u.f) (same-vertex s many p position round i h))
 
       pub reflected-follows : RelatedMove fit (reflectedOf fit s f v) (settledMove l v (reflectOn p told))
       unfolding reflectedOf
       reflected-follows =
-          decided _ _ (below_at 0 0 refl zero-le) _ _ (still (expanding p told)) _
+          decided _ _ (below-at 0 0 refl zero-le) _ _ (still (expanding p told)) _
           (trial-related expandingMark (λ o n. alpha ⊗ beta o n) (expanding p told) refl refl refl (next-trial expandingMark _))
-          (decided _ _ (below_at (fit.n - 1) (p.n - 1) (rw position.count) (omega arith)) _ _ (ends (replaced p told)) _ (replaced-by next many p next-position next-round new told seen)
-          (decided _ _ (below_at fit.n p.n position.count (le_refl fit.n)) _ _ (still (outside p told)) (still (inside p))
+          (decided _ _ (below-at (fit.n - 1) (p.n - 1) (rw position.count) (omega arith)) _ _ (ends (replaced p told)) _ (replaced-by next many p next-position next-round new told seen)
+          (decided _ _ (below-at fit.n p.n position.count (le_refl fit.n)) _ _ (still (outside p told)) (still (inside p))
           (trial-related contractingOutside (λ o n. alpha ⊗ gamma o n) (outside p told) refl refl refl (next-trial contractingOutside _))
           (trial-related contractingInside (λ o n. neg (gamma o n)) (inside p) refl refl refl (next-trial contractingInside _).round)))

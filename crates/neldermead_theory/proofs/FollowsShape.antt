@@ -10,7 +10,7 @@ use lib.ListN.{length, length-set, set, replicate, get_or-replicate}
 use lib.Seq.{get_or-set_same, get_or-set_other}
 use lib.Ieee.{Float, lt, le, nan}
 use Rattle.float.specs.Binary64.{plusZero}
-use Rattle.vector.specs.Points.{towardsOf, shrunkOf, quotient_of}
+use Rattle.vector.specs.Points.{towardsOf, shrunkOf, quotientOf}
 use Rattle.vector.proofs.First.{point-laws}
 use Rattle.vector.specs.Ties.{ZeroFrom}
 use Rattle.neldermead_vertices.specs.declared.Vertex.{Vertex}
@@ -18,7 +18,7 @@ use Rattle.neldermead.specs.declared.Fixed.{Fixed}
 use Rattle.neldermead.specs.declared.Simplex.{Simplex}
 use Rattle.neldermead_vertices.specs.Method.{alpha, better}
 use Rattle.neldermead_vertices.specs.Vertices.{noVertex, vertexAt, sortedOf, centroidOf, cornerOf, anyFiniteOf, convergedOf}
-use Rattle.neldermead.specs.Step.{building, reflecting, expanding, contractingOutside, contractingInside, shrinking, bySimplexIterations, bySimplexFevals, notFinite, vertexOf, phased, asked, withVertex, withRefl, withRound, rerun, orderedOf, trialOf, reflectOf, done_of, tested_of, headedOf, buildOf, settled_of, builtOf, replacedOf, reflectedOf, expandedOf, shrinkOf, outsideOf, insideOf, shrinkingOf, toldOf, start_of}
+use Rattle.neldermead.specs.Step.{building, reflecting, expanding, contractingOutside, contractingInside, shrinking, bySimplexIterations, bySimplexFevals, notFinite, vertexOf, phased, asked, withVertex, withRefl, withRound, rerun, orderedOf, trialOf, reflectOf, doneOf, testedOf, headedOf, buildOf, settledOf, builtOf, replacedOf, reflectedOf, expandedOf, shrinkOf, outsideOf, insideOf, shrinkingOf, toldOf, startOf}
 use Rattle.neldermead_theory.specs.Follows.{EveryPoint, SimplexShaped}
 use Rattle.neldermead_theory.proofs.TiesOrder.{sorted-from}
 use Rattle.neldermead_theory.proofs.Ties.{vertices-tied, zeros-past}
@@ -107,8 +107,8 @@ module _ (fit : Fixed) (P : List Float → Type 0) (positive : 1 ≤ fit.n) (sma
       let q = withRound s (centroidOf s.v fit.n) in
       trial-last q reflecting alpha (kept s q refl refl h.within h.points.x (makes.centroid-of s.v) h.points.refl h)
 
-  tested-last : (s : Simplex) (v : ℕ) → Last s → Last (tested_of fit s v)
-  unfolding tested_of done_of
+  tested-last : (s : Simplex) (v : ℕ) → Last s → Last (testedOf fit s v)
+  unfolding testedOf doneOf
   tested-last s v h =
       either (convergedOf fit.options s.v fit.n) _ _
       (λ e. either (leb fit.options.restarts s.runs) _ _ (λ i. phased-last s _ h) (rerun-last s h))
@@ -136,7 +136,7 @@ module _ (fit : Fixed) (P : List Float → Type 0) (positive : 1 ≤ fit.n) (sma
     new-last = vertex-last s s.at new h.points.x h
 
     built-last : Last (builtOf fit s f v)
-    unfolding builtOf buildOf settled_of
+    unfolding builtOf buildOf settledOf
     built-last =
         either (ltb s.at fit.n) _ _
         (λ e.
@@ -186,7 +186,7 @@ module _ (fit : Fixed) (P : List Float → Type 0) (positive : 1 ≤ fit.n) (sma
 -- ---- sixteen coordinates, and zeros past n
 
 sizes : (n : ℕ) → n ≤ 16 → Makes n (λ x. length x ≡ 16)
-unfolding centroidOf quotient_of towardsOf shrunkOf cornerOf
+unfolding centroidOf quotientOf towardsOf shrunkOf cornerOf
 sizes n h =
     record {
       centroid-of = λ v. point-laws.width _ n h;
@@ -207,8 +207,8 @@ pub told-zeros : (fit : Fixed) (s : Simplex) (f : Float) (v : ℕ) → SimplexSh
 told-zeros fit s f v h z =
     (told-last fit (ZeroFrom fit.n) h.positive h.small (zeros fit.n) s f v (record { within = h.within; many = h.many; points = z })).points
 
-pub start-shaped : (n : ℕ) (x : List Float) → 1 ≤ n → n ≤ 16 → length x ≡ 16 → SimplexShaped n (start_of x)
-unfolding start_of
+pub start-shaped : (n : ℕ) (x : List Float) → 1 ≤ n → n ≤ 16 → length x ≡ 16 → SimplexShaped n (startOf x)
+unfolding startOf
 start-shaped n x p h e =
     record {
       positive = p;
@@ -218,8 +218,8 @@ start-shaped n x p h e =
       points = record { x = e; best = e; cen = refl; refl = refl; vertices = λ i l. rw (get_or-replicate 17 i (vertexOf (replicate 16 plusZero) plusZero) noVertex l) };
     }
 
-pub start-zeros : (n : ℕ) (x : List Float) → ZeroFrom n x → EveryPoint (ZeroFrom n) (start_of x)
-unfolding start_of
+pub start-zeros : (n : ℕ) (x : List Float) → ZeroFrom n x → EveryPoint (ZeroFrom n) (startOf x)
+unfolding startOf
 start-zeros n x z =
     record {
       x = z;

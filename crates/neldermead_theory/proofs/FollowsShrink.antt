@@ -25,7 +25,7 @@ use Rattle.neldermead.specs.Step.{vertexOf, withVertex, headedOf, shrinkOf, shri
 use Rattle.neldermead_theory.specs.Ties.{lowered, loweredTo}
 use Rattle.neldermead_theory.specs.Follows.{SimplexShaped, AtPosition, Related, RelatedMove, settledMove, SimplexAllows}
 use Rattle.neldermead_theory.proofs.CountsLengths.{others-length}
-use Rattle.neldermead_theory.proofs.TiesOrder.{get_d_map}
+use Rattle.neldermead_theory.proofs.TiesOrder.{getD-map}
 use Rattle.neldermead_theory.proofs.Ties.{vertices-tied}
 use Rattle.neldermead_theory.proofs.FollowsHead.{carried, headed-follows}
 
@@ -37,7 +37,7 @@ module _ (p : SimplexPosition) (n : ℕ) (many : length p.vertices ≡ suc n) wh
   drawn-at : (k : ℕ) → k < n → get_or (drawn p) k [] ≡ shrunk (vertex p 0).x (vertex p (suc k)).x (delta p.options p.n)
   drawn-at k h =
       let some : k < length (others p.vertices) = rw (others-length p.vertices n many) h in
-      get_d_map (λ u. shrunk (vertex p 0).x u.x (delta p.options p.n)) (others p.vertices) k p.best [] some
+      getD-map (λ u. shrunk (vertex p 0).x u.x (delta p.options p.n)) (others p.vertices) k p.best [] some
       ∙ ap (λ (u : Vertex). shrunk (vertex p 0).x u.x (delta p.options p.n)) (others-at p.vertices k p.best)
 
 module _ (fit : Fixed) (l : FitLimits) (v : ℕ) (s : Simplex) (p : SimplexPosition) (position : AtPosition fit s p) (many : length p.vertices ≡ suc fit.n)
@@ -71,8 +71,8 @@ module _ (fit : Fixed) (l : FitLimits) (allows : SimplexAllows fit l) (v : ℕ) 
   abbrev vertices : List Vertex
   vertices = us ++ (record { x = x; f = f } ∷ [])
 
-  at_room : s.at < 17
-  at_room = omega (arith, shape.within, shape.small)
+  at-room : s.at < 17
+  at-room = omega (arith, shape.within, shape.small)
 
   next-many : length (set s.v s.at new) ≡ 17
   next-many = length-set s.v s.at new ∙ shape.many
@@ -81,7 +81,7 @@ module _ (fit : Fixed) (l : FitLimits) (allows : SimplexAllows fit l) (v : ℕ) 
   told =
       ap (λ (ws : List Vertex). ws ++ (record { x = x; f = f } ∷ [])) related.holds.told
       ∙ ap (λ (z : List Float). loweredTo fit.n s.at s.v ++ (record { x = z; f = f } ∷ [])) (sym related.point)
-      ∙ sym ((vertices-tied fit.n s.v shape.small shape.many).set_next s.at new at_room)
+      ∙ sym ((vertices-tied fit.n s.v shape.small shape.many).set-next s.at new at-room)
 
   -- another vertex stays
   stays : (i : ℕ) → (i ≡ s.at → ⊥) → vertexAt s.v i ≡ vertexAt (set s.v s.at new) i

@@ -17,7 +17,7 @@ use Rattle.protocol.specs.declared.Kind.TheVariants.{Value}
 use Rattle.protocol.specs.declared.SimplexOptions.{SimplexOptions}
 use Rattle.protocol.specs.declared.Termination.{Termination}
 use Rattle.protocol.specs.declared.Termination.TheVariants.{SimplexTolerance, ObjectiveResolution}
-use Rattle.protocol.specs.Protocol.{read_of}
+use Rattle.protocol.specs.Protocol.{readOf}
 use Rattle.protocol.specs.Dialogue.{Exchange, Told}
 use Rattle.protocol.specs.Ask.{Ask, finish, ◌>>=◌, heardAt, wp, Grows}
 use Rattle.protocol.specs.Rounds.{Ending, atHead, fails, Verdict, goOn, stop, restart}
@@ -31,7 +31,7 @@ use Rattle.neldermead_vertices.specs.Method.{alpha, beta, gamma, delta}
 use Rattle.neldermead_theory.specs.Algorithm.{SimplexPosition, vertex, arrive, replaced, butLast, others, askVertex, askVertices, anyFinite, built, build, corners, towards, shrink, expand, contractOutside, contractInside, reflected, iterated, rerun, round, tests, converged, reason, opening, nowhere, tolerance, positiveFinite, nelderMead}
 use Rattle.neldermead_theory.specs.Laws.{VertexTold, All, Cover, BestTold, SimplexAtHead, SimplexLaws}
 use Rattle.neldermead_theory.proofs.Order.{getD-cases, butlast-from}
-use Rattle.neldermead_theory.proofs.LawsTold.{lt-not-above, told-number, all_cons, all_nil, all_append, cover-by, cover-swap, cover-best, covered, told-new, cover-new, told-grows, best-grows, arrives, arrive-below}
+use Rattle.neldermead_theory.proofs.LawsTold.{lt-not-above, told-number, all-cons, all-nil, all-append, cover-by, cover-swap, cover-best, covered, told-new, cover-new, told-grows, best-grows, arrives, arrive-below}
 
 -- ---- vertices asked for: they are told, what was told stays told, and they cover what is newly told
 
@@ -45,7 +45,7 @@ unfolding ◌>>=◌
 vertex-ok es x n w l i =
     let fs = es ++ (heardAt n Value x w ∷ []) in
     record {
-      told = all_cons (VertexTold fs) _ [] (told-new es n x w l) (all_nil (VertexTold fs));
+      told = all-cons (VertexTold fs) _ [] (told-new es n x w l) (all-nil (VertexTold fs));
       grows = grow-one es (heardAt n Value x w);
       covers = λ b ws. cover-new es n x w b ws;
     }
@@ -58,7 +58,7 @@ then-vertex es x f Q h = wp-bind es (askVertex x) f Q (wp-map es (askVertex x) (
 asked-cons : (es fs gs : List Exchange) (u : Vertex) (us : List Vertex) → Asked es fs (u ∷ []) → Asked fs gs us → Asked es gs (u ∷ us)
 asked-cons es fs gs u us h k =
     record {
-      told = all_cons (VertexTold gs) u us (told-grows fs gs k.grows u (h.told u (Memᴰ.head refl))) k.told;
+      told = all-cons (VertexTold gs) u us (told-grows fs gs k.grows u (h.told u (Memᴰ.head refl))) k.told;
       grows = λ x v t. k.grows x v (h.grows x v t);
       covers = λ b ws c. cover-by gs b (us ++ (u ∷ ws)) (u ∷ us ++ ws) (k.covers b (u ∷ ws) (h.covers b ws c))
           (λ x m. ⊎_elim (λ i. Memᴰ.tail (Memᴰ.append_left ws i))
@@ -67,7 +67,7 @@ asked-cons es fs gs u us h k =
 
 vertices-ok : (xs : List (List Float)) (es : List Exchange) → wp es (askVertices xs) (λ fs us. Asked es fs us)
 unfolding askVertices
-vertices-ok [] es = record { told = all_nil (VertexTold es); grows = λ x v t. t; covers = λ b ws c. c }
+vertices-ok [] es = record { told = all-nil (VertexTold es); grows = λ x v t. t; covers = λ b ws c. c }
 vertices-ok (x ∷ xs) es =
     then-vertex es x (λ u. askVertices xs >>= λ us. finish (u ∷ us)) (Asked es)
     (λ fs u h. wp-bind fs (askVertices xs) (λ us. finish (u ∷ us)) (Asked es)
@@ -102,8 +102,8 @@ pub record Stands (p : SimplexPosition) (es : List Exchange) : Type 0 where
   pub vertices-told : All (VertexTold es) p.vertices
   pub best-told : BestTold es p.best
 
-stands_on : (p : SimplexPosition) (es fs : List Exchange) → Grows es fs → Stands p es → Stands p fs
-stands_on p es fs g h = record { vertices-told = λ u m. told-grows es fs g u (h.vertices-told u m); best-told = best-grows es fs g p.best h.best-told }
+stands-on : (p : SimplexPosition) (es fs : List Exchange) → Grows es fs → Stands p es → Stands p fs
+stands-on p es fs g h = record { vertices-told = λ u m. told-grows es fs g u (h.vertices-told u m); best-told = best-grows es fs g p.best h.best-told }
 
 -- where `<=` fails, the second is not above the first
 not-le : (v w : Float) → le v w ≡ false → NotAbove w v
@@ -125,7 +125,7 @@ module _ (p : SimplexPosition) where
   replaces : (es : List Exchange) (u : Vertex) → Stands p es → VertexTold es u → Cover es b (u ∷ []) → End b.f es (replaced p u)
   replaces es u h t k =
       arrives-lower es (butLast p.vertices ++ (u ∷ [])) h.best-told
-      (all_append (VertexTold es) (butLast p.vertices) (u ∷ []) (λ x m. h.vertices-told x (butlast-from p.vertices x m)) (all_cons (VertexTold es) u [] t (all_nil (VertexTold es))))
+      (all-append (VertexTold es) (butLast p.vertices) (u ∷ []) (λ x m. h.vertices-told x (butlast-from p.vertices x m)) (all-cons (VertexTold es) u [] t (all-nil (VertexTold es))))
       (cover-by es b (u ∷ []) (butLast p.vertices ++ (u ∷ [])) k (λ x m. Memᴰ.append_right (butLast p.vertices) m))
 
   vertex-told : (es : List Exchange) → Stands p es → (k : ℕ) → VertexTold es (vertex p k)
@@ -135,8 +135,8 @@ module _ (p : SimplexPosition) where
   shrinks es h k =
       then-vertices es (map (λ u. shrunk (vertex p 0).x u.x (delta p.options p.n)) (others p.vertices)) (λ us. finish (atHead (arrive p (vertex p 0 ∷ us)))) (End b.f)
       (λ fs us a.
-      let g = stands_on p es fs a.grows h in
-      arrives-lower fs (vertex p 0 ∷ us) g.best-told (all_cons (VertexTold fs) (vertex p 0) us (vertex-told fs g 0) a.told)
+      let g = stands-on p es fs a.grows h in
+      arrives-lower fs (vertex p 0 ∷ us) g.best-told (all-cons (VertexTold fs) (vertex p 0) us (vertex-told fs g 0) a.told)
       (cover-by fs b us (vertex p 0 ∷ us) (alone es fs b us a k) (λ x m. Memᴰ.tail m)))
 
   -- u, just asked for, is not below something told: the best covers alone
@@ -148,15 +148,15 @@ module _ (p : SimplexPosition) where
   -- a contraction c: taken, or a shrink where it is not below something told
   contracted : (es fs : List Exchange) (c v : Vertex) (x : Bool) → Asked es fs (c ∷ []) → Stands p es → Cover es b [] → VertexTold es v → (x ≡ false → NotAbove v.f c.f)
       → wp fs (cond x (finish (replaced p c)) (shrink p)) (End b.f)
-  contracted es fs c v true a h k t n = replaces fs c (stands_on p es fs a.grows h) (a.told c (Memᴰ.head refl)) (a.covers b [] k)
-  contracted es fs c v false a h k t n = shrinks fs (stands_on p es fs a.grows h) (dropped es fs c v a k t (n refl))
+  contracted es fs c v true a h k t n = replaces fs c (stands-on p es fs a.grows h) (a.told c (Memᴰ.head refl)) (a.covers b [] k)
+  contracted es fs c v false a h k t n = shrinks fs (stands-on p es fs a.grows h) (dropped es fs c v a k t (n refl))
 
   -- an expansion e of the reflection r: the smaller is taken, r on ties
   expanded : (es fs : List Exchange) (r e : Vertex) → Asked es fs (e ∷ []) → Stands p es → VertexTold es r → Cover es b (r ∷ []) → End b.f fs (replaced p (cond (lt e.f r.f) e r))
   expanded es fs r e a h t k = go (lt e.f r.f) refl
     where
       g : Stands p fs
-      g = stands_on p es fs a.grows h
+      g = stands-on p es fs a.grows h
 
       new : VertexTold fs e
       new = a.told e (Memᴰ.head refl)
@@ -167,8 +167,8 @@ module _ (p : SimplexPosition) where
       swapped : Cover fs b (r ∷ e ∷ [])
       swapped =
           cover-by fs b (e ∷ r ∷ []) (r ∷ e ∷ []) both
-          (all_cons (λ u. Memᴰ u (r ∷ e ∷ [])) e (r ∷ []) (Memᴰ.tail (Memᴰ.head refl))
-          (all_cons (λ u. Memᴰ u (r ∷ e ∷ [])) r [] (Memᴰ.head refl) (all_nil (λ u. Memᴰ u (r ∷ e ∷ [])))))
+          (all-cons (λ u. Memᴰ u (r ∷ e ∷ [])) e (r ∷ []) (Memᴰ.tail (Memᴰ.head refl))
+          (all-cons (λ u. Memᴰ u (r ∷ e ∷ [])) r [] (Memᴰ.head refl) (all-nil (λ u. Memᴰ u (r ∷ e ∷ [])))))
 
       go : (x : Bool) → lt e.f r.f ≡ x → End b.f fs (replaced p (cond x e r))
       go true i = replaces fs e g new (cover-swap fs b r (e ∷ []) swapped (told-number es r t) e (Memᴰ.head refl) (lt-not-above e.f r.f i))
@@ -178,7 +178,7 @@ module _ (p : SimplexPosition) where
   reflected-ok es fs r a h k = go (lt r.f (vertex p 0).f) (lt r.f (vertex p (p.n - 1)).f) (lt r.f (vertex p p.n).f) refl
     where
       g : Stands p fs
-      g = stands_on p es fs a.grows h
+      g = stands-on p es fs a.grows h
 
       new : VertexTold fs r
       new = a.told r (Memᴰ.head refl)
@@ -281,11 +281,11 @@ restart-law s es p m a =
     (begins-build (rerun p) p.best.x, rebuilt s es (rerun p) p.best.x a.best-told a.cover))
     (λ e. absurd (go-on≢restart e))
 
-known_at : (es : List Exchange) (p : SimplexPosition) → SimplexAtHead es p → Known (Unit {0}) es p.best.x p.best.f
-known_at es p a =
+known-at : (es : List Exchange) (p : SimplexPosition) → SimplexAtHead es p → Known (Unit {0}) es p.best.x p.best.f
+known-at es p a =
     let b = a.best-told in
-    let same : read_of b.0.0 ≡ b.0.0 = read-own b.0.0 (subst Finite (sym b.0.2) b.1) in
+    let same : readOf b.0.0 ≡ b.0.0 = read-own b.0.0 (subst Finite (sym b.0.2) b.1) in
     (b.1, subst (λ (z : Float). Told es p.best.x z) (sym same ∙ b.0.2) b.0.1, λ s x v t. ⊎_elim (λ n. n) (λ i. absurd (Memᴰ.not-nil i.1)) (a.cover x v t))
 
 pub laws : SimplexLaws
-laws = record { At = At; known = λ s es p a. known_at es p a; opening-ok = opening-law; stop-ok = λ s es p y a e. stop-law p y e; restart-ok = restart-law; round-ok = round-law }
+laws = record { At = At; known = λ s es p a. known-at es p a; opening-ok = opening-law; stop-ok = λ s es p y a e. stop-law p y e; restart-ok = restart-law; round-ok = round-law }

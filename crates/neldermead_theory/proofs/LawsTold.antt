@@ -10,20 +10,20 @@ use lib.ListN.{length, get_or}
 use lib.Ieee.{Float, nan, inf, fin, lt, is_nan}
 use Rattle.float.specs.Binary64.{Number, NotAbove}
 use Rattle.float.specs.Values.{Finite, finiteOf}
-use Rattle.float.proofs.Order.{lt→le, le→not-above, lt_irrefl, not-above-trans}
+use Rattle.float.proofs.Order.{lt→le, le→not-above, lt-irrefl, not-above-trans}
 use Rattle.float.proofs.Tests.{false-T}
 use Rattle.protocol.specs.declared.Kind.TheVariants.{Value}
-use Rattle.protocol.specs.Protocol.{read_of}
+use Rattle.protocol.specs.Protocol.{readOf}
 use Rattle.protocol.specs.Dialogue.{Exchange}
 use Rattle.protocol.specs.Ask.{heardAt, Grows}
 use Rattle.protocol.proofs.Replies.{true-T, not-above-self}
-use Rattle.protocol.proofs.Readings.{only, read_below, read_number}
+use Rattle.protocol.proofs.Readings.{only, read-below, read-number}
 use Rattle.neldermead_vertices.specs.declared.Vertex.{Vertex}
 use Rattle.neldermead_vertices.specs.Order.{inOrder}
 use Rattle.neldermead_vertices.specs.Method.{better}
 use Rattle.neldermead_theory.specs.Algorithm.{SimplexPosition, arrive, anyFinite}
 use Rattle.neldermead_theory.specs.Laws.{VertexTold, All, Cover, BestTold, SimplexAtHead}
-use Rattle.neldermead_theory.proofs.Order.{order_from, least_first, getD-cases}
+use Rattle.neldermead_theory.proofs.Order.{order-from, least-first, getD-cases}
 
 -- ---- values
 
@@ -37,18 +37,18 @@ pub lt-not-above : (v w : Float) → lt v w ≡ true → NotAbove v w
 lt-not-above v w e = le→not-above v w (lt→le v w (true-T (lt v w) e))
 
 pub told-number : (es : List Exchange) (u : Vertex) → VertexTold es u → Number u.f
-told-number es u t = subst Number t.2 (read_number t.0)
+told-number es u t = subst Number t.2 (read-number t.0)
 
 -- ---- all of a list
 
-pub all_cons : (P : Vertex → Type 0) (u : Vertex) (us : List Vertex) → P u → All P us → All P (u ∷ us)
-all_cons P u us p h x m = ⊎_elim (λ e. subst P (sym e) p) (λ k. h x k) (Memᴰ.cases_cons m)
+pub all-cons : (P : Vertex → Type 0) (u : Vertex) (us : List Vertex) → P u → All P us → All P (u ∷ us)
+all-cons P u us p h x m = ⊎_elim (λ e. subst P (sym e) p) (λ k. h x k) (Memᴰ.cases_cons m)
 
-pub all_nil : (P : Vertex → Type 0) → All P []
-all_nil P x m = absurd (Memᴰ.not-nil m)
+pub all-nil : (P : Vertex → Type 0) → All P []
+all-nil P x m = absurd (Memᴰ.not-nil m)
 
-pub all_append : (P : Vertex → Type 0) (us ws : List Vertex) → All P us → All P ws → All P (us ++ ws)
-all_append P us ws h k x m = ⊎_elim (h x) (k x) (Memᴰ.append_cases us m)
+pub all-append : (P : Vertex → Type 0) (us ws : List Vertex) → All P us → All P ws → All P (us ++ ws)
+all-append P us ws h k x m = ⊎_elim (h x) (k x) (Memᴰ.append_cases us m)
 
 -- ---- what covers
 
@@ -60,7 +60,7 @@ cover-by es b us ws h k x v t = ⊎_elim (λ n. inl n) (λ p. inr (p.0, k p.0 p.
 pub cover-swap : (es : List Exchange) (b r : Vertex) (ws : List Vertex) → Cover es b (r ∷ ws) → Number r.f → (u : Vertex) → Memᴰ u ws → NotAbove u.f r.f → Cover es b ws
 cover-swap es b r ws h n u m k x v t =
     ⊎_elim (λ a. inl a)
-    (λ p. ⊎_elim (λ e. inr (u, m, not-above-trans u.f r.f (read_of v) n k (subst (λ (z : Vertex). NotAbove z.f (read_of v)) e p.2)))
+    (λ p. ⊎_elim (λ e. inr (u, m, not-above-trans u.f r.f (readOf v) n k (subst (λ (z : Vertex). NotAbove z.f (readOf v)) e p.2)))
     (λ i. inr (p.0, i, p.2)) (Memᴰ.cases_cons p.1))
     (h x v t)
 
@@ -68,7 +68,7 @@ cover-swap es b r ws h n u m k x v t =
 pub cover-best : (es : List Exchange) (b r : Vertex) (ws : List Vertex) → Cover es b (r ∷ ws) → Number r.f → NotAbove b.f r.f → Cover es b ws
 cover-best es b r ws h n k x v t =
     ⊎_elim (λ a. inl a)
-    (λ p. ⊎_elim (λ e. inl (not-above-trans b.f r.f (read_of v) n k (subst (λ (z : Vertex). NotAbove z.f (read_of v)) e p.2)))
+    (λ p. ⊎_elim (λ e. inl (not-above-trans b.f r.f (readOf v) n k (subst (λ (z : Vertex). NotAbove z.f (readOf v)) e p.2)))
     (λ i. inr (p.0, i, p.2)) (Memᴰ.cases_cons p.1))
     (h x v t)
 
@@ -85,7 +85,7 @@ module _ (es : List Exchange) (n : ℕ) (y w : List Float) where
 
   -- the vertex made of it
   abbrev new : Vertex
-  new = record { x = y; f = read_of (get_or w 0 nan) }
+  new = record { x = y; f = readOf (get_or w 0 nan) }
 
   pub told-new : length w ≡ 1 → VertexTold more new
   told-new l = (get_or w 0 nan, (heardAt n Value y w, Memᴰ.append_right es (Memᴰ.head refl), refl, refl, only w l), refl)
@@ -97,10 +97,10 @@ module _ (es : List Exchange) (n : ℕ) (y w : List Float) where
       (λ m. inr (new, Memᴰ.head refl, here (Memᴰ.eq_of_singleton m)))
       (Memᴰ.append_cases es t.1)
     where
-      here : t.0 ≡ heardAt n Value y w → NotAbove (read_of (get_or w 0 nan)) (read_of v)
+      here : t.0 ≡ heardAt n Value y w → NotAbove (readOf (get_or w 0 nan)) (readOf v)
       here e =
           let words : w ≡ v ∷ [] = sym (ap (λ (z : Exchange). z.words) e) ∙ t.4 in
-          subst (λ (l : List Float). NotAbove (read_of (get_or w 0 nan)) (read_of (get_or l 0 nan))) words (not-above-self (read_of (get_or w 0 nan)))
+          subst (λ (l : List Float). NotAbove (readOf (get_or w 0 nan)) (readOf (get_or l 0 nan))) words (not-above-self (readOf (get_or w 0 nan)))
 
 -- what was told stays told
 pub told-grows : (es fs : List Exchange) → Grows es fs → (u : Vertex) → VertexTold es u → VertexTold fs u
@@ -125,29 +125,29 @@ module _ (es : List Exchange) (p : SimplexPosition) (us : List Vertex) (told : A
   first = get_or (inOrder us) 0 p.best
 
   least : (x : Vertex) → Memᴰ x us → NotAbove first.f x.f
-  least = least_first us p.best
+  least = least-first us p.best
 
   best-number : Number p.best.f
   unfolding is_nan
   best-number = ⊎_elim (λ t. told-number es p.best t.0) (λ i. subst Number (sym i.0) tt) found
 
   first-is : VertexTold es first ⊎ (first ≡ p.best)
-  first-is = ⊎_elim (λ m. inl (told first (order_from us first m))) (λ e. inr e) (getD-cases (inOrder us) 0 p.best)
+  first-is = ⊎_elim (λ m. inl (told first (order-from us first m))) (λ e. inr e) (getD-cases (inOrder us) 0 p.best)
 
   first-number : Number first.f
   first-number = ⊎_elim (told-number es first) (λ e. subst (λ (z : Vertex). Number z.f) (sym e) best-number) first-is
 
   -- the best is replaced
-  new_told : lt first.f p.best.f ≡ true → BestTold es first
-  new_told e =
+  new-told : lt first.f p.best.f ≡ true → BestTold es first
+  new-told e =
       let less = true-T (lt first.f p.best.f) e in
-      ⊎_elim (λ t. (t, subst Finite t.2 (read_below t.0 p.best.f (subst (λ (z : Float). T (lt z p.best.f)) (sym t.2) less))))
-      (λ i. absurd (lt_irrefl p.best.f (subst (λ (z : Vertex). T (lt z.f p.best.f)) i less))) first-is
+      ⊎_elim (λ t. (t, subst Finite t.2 (read-below t.0 p.best.f (subst (λ (z : Float). T (lt z p.best.f)) (sym t.2) less))))
+      (λ i. absurd (lt-irrefl p.best.f (subst (λ (z : Vertex). T (lt z.f p.best.f)) i less))) first-is
 
   new-cover : NotAbove first.f p.best.f → Cover es first []
   new-cover k x v t =
-      inl (⊎_elim (λ a. not-above-trans first.f p.best.f (read_of v) best-number k a)
-      (λ q. not-above-trans first.f q.0.f (read_of v) (told-number es q.0 (told q.0 q.1)) (least q.0 q.1) q.2) (cover x v t))
+      inl (⊎_elim (λ a. not-above-trans first.f p.best.f (readOf v) best-number k a)
+      (λ q. not-above-trans first.f q.0.f (readOf v) (told-number es q.0 (told q.0 q.1)) (least q.0 q.1) q.2) (cover x v t))
 
   -- the best stays, and is no infinity, since of the vertices one is finite
   old-told : NotAbove p.best.f first.f → BestTold es p.best
@@ -163,14 +163,14 @@ module _ (es : List Exchange) (p : SimplexPosition) (us : List Vertex) (told : A
       inl (⊎_elim (λ a. a)
       (λ q.
       let below : NotAbove p.best.f q.0.f = not-above-trans p.best.f first.f q.0.f first-number k (least q.0 q.1) in
-      not-above-trans p.best.f q.0.f (read_of v) (told-number es q.0 (told q.0 q.1)) below q.2) (cover x v t))
+      not-above-trans p.best.f q.0.f (readOf v) (told-number es q.0 (told q.0 q.1)) below q.2) (cover x v t))
 
   pub arrives : SimplexAtHead es (arrive p us)
   unfolding arrive better
-  arrives = record { vertices-told = λ u m. told u (order_from us u m); best-told = go-told (lt first.f p.best.f) refl; cover = go-cover (lt first.f p.best.f) refl }
+  arrives = record { vertices-told = λ u m. told u (order-from us u m); best-told = go-told (lt first.f p.best.f) refl; cover = go-cover (lt first.f p.best.f) refl }
     where
       go-told : (b : Bool) → lt first.f p.best.f ≡ b → BestTold es (cond b first p.best)
-      go-told true e = new_told e
+      go-told true e = new-told e
       go-told false e = old-told (false-T (lt first.f p.best.f) e)
 
       go-cover : (b : Bool) → lt first.f p.best.f ≡ b → Cover es (cond b first p.best) []

@@ -14,7 +14,7 @@ use Rattle.float.specs.Order.{totalOrder, precedesOf}
 use Rattle.neldermead_vertices.specs.declared.Vertex.{Vertex}
 use Rattle.neldermead_vertices.specs.Order.{insert, inOrder, level, Ordered}
 use Rattle.neldermead_theory.specs.Algorithm.{butLast, others}
-use Rattle.neldermead_theory.proofs.Precedes.{total, order-not-above, order_trans}
+use Rattle.neldermead_theory.proofs.Precedes.{total, order-not-above, order-trans}
 
 -- ---- a test of `precedesOf`, and the order that it says
 
@@ -105,7 +105,7 @@ insert-stable v u (w ∷ ws) = go (precedesOf w.f u.f) refl (insert-stable v u w
     go true e h =
         ap (λ (rest : List Vertex). cond (precedesOf v w.f) rest (cond (precedesOf w.f v) rest (w ∷ rest))) h
         ∙ swap (precedesOf v w.f) (precedesOf w.f v) (precedesOf v u.f) (precedesOf u.f v) (level v ws)
-        (λ a b c d. precedes w.f u.f e (order_trans u.f v w.f (not-precedes v u.f c) (not-precedes w.f v b)))
+        (λ a b c d. precedes w.f u.f e (order-trans u.f v w.f (not-precedes v u.f c) (not-precedes w.f v b)))
     go false e h = refl
 
 order-stable : (v : Float) (us : List Vertex) → level v (inOrder us) ≡ level v us
@@ -114,8 +114,8 @@ order-stable v [] = refl
 order-stable v (u ∷ us) =
     insert-stable v u (inOrder us) ∙ ap (λ (rest : List Vertex). cond (precedesOf v u.f) rest (cond (precedesOf u.f v) rest (u ∷ rest))) (order-stable v us)
 
-pub in_order : (us : List Vertex) → Ordered us (inOrder us)
-in_order us = record { sorted = order-sorted us; stable = λ v. order-stable v us }
+pub in-order : (us : List Vertex) → Ordered us (inOrder us)
+in-order us = record { sorted = order-sorted us; stable = λ v. order-stable v us }
 
 -- ---- the same vertices, as many of them
 
@@ -128,10 +128,10 @@ insert-from u (w ∷ ws) x m = go (precedesOf w.f u.f) m (insert-from u ws x)
     go true m h = ⊎_elim (λ e. inr (Memᴰ.head e)) (λ k. ⊎_elim (λ e. inl e) (λ i. inr (Memᴰ.tail i)) (h k)) (Memᴰ.cases_cons m)
     go false m h = Memᴰ.cases_cons m
 
-pub order_from : (us : List Vertex) (x : Vertex) → Memᴰ x (inOrder us) → Memᴰ x us
+pub order-from : (us : List Vertex) (x : Vertex) → Memᴰ x (inOrder us) → Memᴰ x us
 unfolding inOrder
-order_from [] x m = m
-order_from (u ∷ us) x m = ⊎_elim (λ e. Memᴰ.head e) (λ k. Memᴰ.tail (order_from us x k)) (insert-from u (inOrder us) x m)
+order-from [] x m = m
+order-from (u ∷ us) x m = ⊎_elim (λ e. Memᴰ.head e) (λ k. Memᴰ.tail (order-from us x k)) (insert-from u (inOrder us) x m)
 
 -- ---- the first is not above any
 
@@ -158,15 +158,15 @@ insert-old u (w ∷ ws) d x h = go (precedesOf w.f u.f) refl
   where
     go : (b : Bool) → precedesOf w.f u.f ≡ b → First (cond b (w ∷ insert u ws) (u ∷ w ∷ ws)) d x
     go true e = h d
-    go false e = order_trans u.f w.f x.f (not-precedes w.f u.f e) (h d)
+    go false e = order-trans u.f w.f x.f (not-precedes w.f u.f e) (h d)
 
 order-first : (us : List Vertex) (d x : Vertex) → Memᴰ x us → First (inOrder us) d x
 unfolding inOrder
 order-first [] d x m = absurd (Memᴰ.not-nil m)
 order-first (u ∷ us) d x m = ⊎_elim (λ e. rw e (insert-new u (inOrder us) d)) (λ k. insert-old u (inOrder us) d x (λ e. order-first us e x k)) (Memᴰ.cases_cons m)
 
-pub least_first : (us : List Vertex) (d x : Vertex) → Memᴰ x us → NotAbove (get_or (inOrder us) 0 d).f x.f
-least_first us d x m = order-not-above (get_or (inOrder us) 0 d).f x.f (order-first us d x m)
+pub least-first : (us : List Vertex) (d x : Vertex) → Memᴰ x us → NotAbove (get_or (inOrder us) 0 d).f x.f
+least-first us d x m = order-not-above (get_or (inOrder us) 0 d).f x.f (order-first us d x m)
 
 -- ---- reading and replacing
 

@@ -14,12 +14,12 @@ use Rattle.protocol.specs.declared.SimplexOptions.{SimplexOptions}
 use Rattle.protocol.specs.Ask.{Ask, finish, query, ◌>>=◌}
 use Rattle.protocol.specs.Rounds.{Ending, atHead, fails, goOn, stop, restart}
 use Rattle.protocol.specs.Places.{still, ends, text, StepsLaws}
-use Rattle.protocol.proofs.Texts.{bind_assoc}
+use Rattle.protocol.proofs.Texts.{bind-assoc}
 use Rattle.protocol.proofs.Verdicts.{stop≢restart, go-on≢restart, restart-inj}
 use Rattle.neldermead_vertices.specs.declared.Vertex.{Vertex}
 use Rattle.neldermead_vertices.specs.Method.{alpha, gamma}
 use Rattle.neldermead_theory.specs.Algorithm.{SimplexPosition, vertex, arrive, replaced, askVertex, askVertices, built, build, towards, centroid, shrink, expand, contractOutside, contractInside, reflected, rerun, converged, reason, tests, tolerance, positiveFinite, opening, nelderMead}
-use Rattle.neldermead_theory.specs.Phases.{Phase, building, reflecting, expanding, outside, inside, shrinking, point_of, Move, buildOn, shrinkOn, drawn, reflectOn, told, step_of, buildAt, openingMove, simplexSteps}
+use Rattle.neldermead_theory.specs.Phases.{Phase, building, reflecting, expanding, outside, inside, shrinking, pointOf, Move, buildOn, shrinkOn, drawn, reflectOn, told, stepOf, buildAt, openingMove, simplexSteps}
 
 -- what a phase has still to do
 abbrev toDo : Phase → Ask (Ending SimplexPosition)
@@ -45,7 +45,7 @@ append-one (v ∷ us) u ws = ap (λ (l : List Vertex). v ∷ l) (append-one us u
 rest-text : (us : List Vertex) (u : Vertex) (xs : List (List Float)) (K : List Vertex → Ask (Ending SimplexPosition)) → (askVertices xs >>= λ ws. finish (u ∷ ws)) >>= (λ ws. K (us ++ ws)) ≡ askVertices xs >>= (λ ws. K ((us ++ (u ∷ [])) ++ ws))
 unfolding ◌>>=◌
 rest-text us u xs K =
-    bind_assoc (askVertices xs) (λ ws. finish (u ∷ ws)) (λ ws. K (us ++ ws))
+    bind-assoc (askVertices xs) (λ ws. finish (u ∷ ws)) (λ ws. K (us ++ ws))
     ∙ ap (λ (k : List Vertex → Ask (Ending SimplexPosition)). askVertices xs >>= k) (fun_ext (λ ws. ap K (append-one us u ws)))
 
 build-text : (p : SimplexPosition) (us : List Vertex) (xs : List (List Float)) → askVertices xs >>= (λ ws. built p (us ++ ws)) ≡ words (buildOn p us xs)
@@ -64,7 +64,7 @@ reflect-text p r =
     (cond-words (lt r.f (vertex p (p.n - 1)).f) (ends (replaced p r)) _ (finish (replaced p r)) _ refl
     (cond-words (lt r.f (vertex p p.n).f) (still (outside p r)) (still (inside p)) (contractOutside p r) (contractInside p) refl refl))
 
-follows : (s : Phase) → toDo s ≡ query Value (point_of s) (λ w. words (step_of s w))
+follows : (s : Phase) → toDo s ≡ query Value (pointOf s) (λ w. words (stepOf s w))
 unfolding ◌>>=◌ askVertices
 follows (building p us x xs) = ap (query Value x) (fun_ext (λ w. rest-text us (told x w) xs (built p) ∙ build-text p (us ++ (told x w ∷ [])) xs))
 follows (shrinking p us x xs) =

@@ -10,14 +10,14 @@ use lib.Seq.{get_or-set_same, get_or-set_other}
 use lib.Ieee.{Float, nan, lt}
 use borrow.Author.Tests.{eqb-true, eqb-false}
 use Rattle.vector.specs.Loops.{at}
-use Rattle.vector.specs.Points.{quotient_of, towardsOf, shrunkOf}
+use Rattle.vector.specs.Points.{quotientOf, towardsOf, shrunkOf}
 use Rattle.vector.proofs.First.{point-laws}
 use Rattle.vector.specs.Ties.{ZeroFrom}
 use Rattle.neldermead_vertices.specs.declared.Vertex.{Vertex}
 use Rattle.neldermead_vertices.specs.Method.{better, displaced}
 use Rattle.neldermead_vertices.specs.Vertices.{noVertex, vertexAt, sortedOf, centroidOf, cornerOf}
 use Rattle.neldermead_theory.specs.Ties.{VerticesTied, ZerosFrom, SimplexZeroLaws}
-use Rattle.neldermead_theory.proofs.TiesOrder.{many, vertex-at, sorted_of, sorted-many, sorted-past, sorted-from, set-inside, set_next, set_last, better-of}
+use Rattle.neldermead_theory.proofs.TiesOrder.{many, vertex-at, sorted-of, sorted-many, sorted-past, sorted-from, set-inside, set-next, set-last, better-of}
 use Rattle.neldermead_theory.proofs.TiesPoints.{vertex-of, centroid-of, towards-of, size-of, converged-of, reason-of, drawn-many, drawn-at, corners-many, corner-at, any-finite}
 
 pub vertices-tied : (n : ℕ) (v : List Vertex) → n ≤ 16 → length v ≡ 17 → VerticesTied n v
@@ -25,7 +25,7 @@ vertices-tied n v small long =
     record {
       many = many n v small long;
       vertex-at = vertex-at n v small long;
-      sorted_of = sorted_of n v small long;
+      sorted-of = sorted-of n v small long;
       sorted-many = sorted-many n v small long;
       sorted-past = sorted-past n v small long;
       sorted-from = sorted-from n v long;
@@ -41,8 +41,8 @@ vertices-tied n v small long =
       corner-at = corner-at n small;
       any-finite = any-finite n v small long;
       set-inside = set-inside n v small long;
-      set_next = set_next n v small long;
-      set_last = set_last n v small long;
+      set-next = set-next n v small long;
+      set-last = set-last n v small long;
       better-of = better-of n;
     }
 
@@ -73,7 +73,7 @@ module _ (n : ℕ) where
   corner-zeros initial x i h z k l j = get_or-set_other x i k (displaced initial (at x i)) nan (λ e. omega arith) ∙ z k l j
 
   pub zeros-past : SimplexZeroLaws n
-  unfolding centroidOf quotient_of towardsOf shrunkOf
+  unfolding centroidOf quotientOf towardsOf shrunkOf
   zeros-past =
       record {
         sorted-zeros = sorted-zeros;

@@ -17,15 +17,15 @@ use Rattle.neldermead_theory.specs.Algorithm.{butLast}
 use Rattle.neldermead_vertices.specs.Vertices.{noVertex, vertexAt, sortedOf}
 use Rattle.neldermead_vertices.proofs.Insertion.{length-in-order}
 use Rattle.neldermead_theory.specs.Ties.{lowered, loweredTo}
-use Rattle.neldermead_theory.proofs.Order.{order_from}
+use Rattle.neldermead_theory.proofs.Order.{order-from}
 
 -- ---- lists
 
 -- what stands in for a missing element plays no part
-pub get_d_map : {A B : Type 0} (f : A → B) (l : List A) (i : ℕ) (d : A) (e : B) → i < length l → get_or (map f l) i e ≡ f (get_or l i d)
-get_d_map f [] i d e h = absurd (omega arith)
-get_d_map f (x ∷ xs) zero d e h = refl
-get_d_map f (x ∷ xs) (suc i) d e h = get_d_map f xs i d e (omega arith)
+pub getD-map : {A B : Type 0} (f : A → B) (l : List A) (i : ℕ) (d : A) (e : B) → i < length l → get_or (map f l) i e ≡ f (get_or l i d)
+getD-map f [] i d e h = absurd (omega arith)
+getD-map f (x ∷ xs) zero d e h = refl
+getD-map f (x ∷ xs) (suc i) d e h = getD-map f xs i d e (omega arith)
 
 map-set : {A B : Type 0} (f : A → B) (l : List A) (i : ℕ) (x : A) → map f (set l i x) ≡ set (map f l) i (f x)
 map-set f [] i x = refl
@@ -65,20 +65,20 @@ module _ (n : ℕ) where
 
 -- ---- each vertex in order is one of those that stood
 
-in_place : (us : List Vertex) (i : ℕ) → i < length us → Memᴰ (vertexAt us i) us
-in_place [] i h = absurd (omega arith)
-in_place (u ∷ us) zero h = Memᴰ.head refl
-in_place (u ∷ us) (suc i) h = Memᴰ.tail (in_place us i (omega arith))
+in-place : (us : List Vertex) (i : ℕ) → i < length us → Memᴰ (vertexAt us i) us
+in-place [] i h = absurd (omega arith)
+in-place (u ∷ us) zero h = Memᴰ.head refl
+in-place (u ∷ us) (suc i) h = Memᴰ.tail (in-place us i (omega arith))
 
-place_of : (us : List Vertex) (u : Vertex) → Memᴰ u us → (i : ℕ) × (i < length us) × (u ≡ vertexAt us i)
-place_of [] u m = absurd (Memᴰ.not-nil m)
-place_of (w ∷ ws) u m = ⊎_elim (λ e. (0, omega arith, e)) (λ k. let r = place_of ws u k in (suc r.0, omega (arith, r.1), r.2)) (Memᴰ.cases_cons m)
+place-of : (us : List Vertex) (u : Vertex) → Memᴰ u us → (i : ℕ) × (i < length us) × (u ≡ vertexAt us i)
+place-of [] u m = absurd (Memᴰ.not-nil m)
+place-of (w ∷ ws) u m = ⊎_elim (λ e. (0, omega arith, e)) (λ k. let r = place-of ws u k in (suc r.0, omega (arith, r.1), r.2)) (Memᴰ.cases_cons m)
 
 stood : (v : List Vertex) (n : ℕ) (u : Vertex) → Memᴰ u (sortedOf v n) → Memᴰ u v
 unfolding sortedOf
 stood v n u m =
     subst (Memᴰ u) (take-append-drop (suc n) v)
-    (⊎_elim (λ k. Memᴰ.append_left (drop (suc n) v) (order_from (take (suc n) v) u k)) (λ k. Memᴰ.append_right (take (suc n) v) k)
+    (⊎_elim (λ k. Memᴰ.append_left (drop (suc n) v) (order-from (take (suc n) v) u k)) (λ k. Memᴰ.append_right (take (suc n) v) k)
     (Memᴰ.append_cases (inOrder (take (suc n) v)) m))
 
 sorted-length : (v : List Vertex) (n : ℕ) → length (sortedOf v n) ≡ length v
@@ -88,7 +88,7 @@ sorted-length v n = length_front v (inOrder (take (suc n) v)) (suc n) (length-in
 pub sorted-from : (n : ℕ) (v : List Vertex) → length v ≡ 17 → (i : ℕ) → i < 17 → (j : ℕ) × (j < 17) × (vertexAt (sortedOf v n) i ≡ vertexAt v j)
 sorted-from n v long i h =
     let u = vertexAt (sortedOf v n) i in
-    let r = place_of v u (stood v n u (in_place (sortedOf v n) i (omega (arith, sorted-length v n)))) in
+    let r = place-of v u (stood v n u (in-place (sortedOf v n) i (omega (arith, sorted-length v n)))) in
     (r.0, omega (arith, r.1), r.2)
 
 -- ---- seventeen vertices
@@ -98,30 +98,30 @@ module _ (n : ℕ) (v : List Vertex) (small : n ≤ 16) (long : length v ≡ 17)
 
   pub vertex-at : (d : Vertex) (i : ℕ) → i ≤ n → get_or (loweredTo n (suc n) v) i d ≡ lowered n (vertexAt v i)
   vertex-at d i h =
-      get_d_map (lowered n) (take (suc n) v) i noVertex d (omega (arith, length-take-le (suc n) v (omega arith)))
+      getD-map (lowered n) (take (suc n) v) i noVertex d (omega (arith, length-take-le (suc n) v (omega arith)))
       ∙ ap (lowered n) (get_or-take (suc n) v i noVertex (omega arith))
 
-  pub one_more : (k : ℕ) → k < 17 → loweredTo n (suc k) v ≡ loweredTo n k v ++ (lowered n (vertexAt v k) ∷ [])
-  one_more k h = ap (map (lowered n)) (take-suc v k noVertex (omega arith)) ∙ map-append (lowered n) (take k v) (vertexAt v k ∷ [])
+  pub one-more : (k : ℕ) → k < 17 → loweredTo n (suc k) v ≡ loweredTo n k v ++ (lowered n (vertexAt v k) ∷ [])
+  one-more k h = ap (map (lowered n)) (take-suc v k noVertex (omega arith)) ∙ map-append (lowered n) (take k v) (vertexAt v k ∷ [])
 
   pub butlast-of : butLast (loweredTo n (suc n) v) ≡ loweredTo n n v
-  butlast-of = ap butLast (one_more n (omega arith)) ∙ butlast-more (loweredTo n n v) (lowered n (vertexAt v n))
+  butlast-of = ap butLast (one-more n (omega arith)) ∙ butlast-more (loweredTo n n v) (lowered n (vertexAt v n))
 
   pub set-inside : (k i : ℕ) (u : Vertex) → i < k → loweredTo n k (set v i u) ≡ set (loweredTo n k v) i (lowered n u)
   set-inside k i u h = ap (map (lowered n)) (take-set-lt k v i u h) ∙ map-set (lowered n) (take k v) i u
 
-  pub set_next : (k : ℕ) (u : Vertex) → k < 17 → loweredTo n (suc k) (set v k u) ≡ loweredTo n k v ++ (lowered n u ∷ [])
-  set_next k u h = ap (map (lowered n)) (take-suc-set v k u (omega arith)) ∙ map-append (lowered n) (take k v) (u ∷ [])
+  pub set-next : (k : ℕ) (u : Vertex) → k < 17 → loweredTo n (suc k) (set v k u) ≡ loweredTo n k v ++ (lowered n u ∷ [])
+  set-next k u h = ap (map (lowered n)) (take-suc-set v k u (omega arith)) ∙ map-append (lowered n) (take k v) (u ∷ [])
 
-  pub set_last : (u : Vertex) → loweredTo n (suc n) (set v n u) ≡ butLast (loweredTo n (suc n) v) ++ (lowered n u ∷ [])
-  set_last u = set_next n u (omega arith) ∙ ap (λ l. l ++ (lowered n u ∷ [])) (sym butlast-of)
+  pub set-last : (u : Vertex) → loweredTo n (suc n) (set v n u) ≡ butLast (loweredTo n (suc n) v) ++ (lowered n u ∷ [])
+  set-last u = set-next n u (omega arith) ∙ ap (λ l. l ++ (lowered n u ∷ [])) (sym butlast-of)
 
   front : length (inOrder (take (suc n) v)) ≡ suc n
   front = length-in-order (take (suc n) v) ∙ length-take-le (suc n) v (omega arith)
 
-  pub sorted_of : loweredTo n (suc n) (sortedOf v n) ≡ inOrder (loweredTo n (suc n) v)
+  pub sorted-of : loweredTo n (suc n) (sortedOf v n) ≡ inOrder (loweredTo n (suc n) v)
   unfolding sortedOf
-  sorted_of = ap (map (lowered n)) (take_at (inOrder (take (suc n) v)) (drop (suc n) v) (suc n) front) ∙ lower-order n (take (suc n) v)
+  sorted-of = ap (map (lowered n)) (take_at (inOrder (take (suc n) v)) (drop (suc n) v) (suc n) front) ∙ lower-order n (take (suc n) v)
 
   pub sorted-many : length (sortedOf v n) ≡ 17
   sorted-many = sorted-length v n ∙ long

@@ -10,7 +10,7 @@ use lib.ListN.{length, get_or, set, replicate, length-map, length-append, get_or
 use lib.Seq.{append_snoc, set-append_seam, ext_get_or}
 use lib.Ieee.{Float, nan, lt, le}
 use Rattle.float.specs.Binary64.{◌⊖◌, plusZero}
-use Rattle.float.specs.Values.{absOf, finiteOf, max_of}
+use Rattle.float.specs.Values.{absOf, finiteOf, maxOf}
 use Rattle.float.proofs.Tests.{cond-and}
 use Rattle.vector.specs.Loops.{at}
 use Rattle.vector.specs.Points.{towardsOf, shrunkOf, infNormOf, differenceOf}
@@ -23,10 +23,10 @@ use Rattle.neldermead_vertices.specs.declared.Vertex.{Vertex}
 use Rattle.neldermead_vertices.specs.Method.{displaced, resolution, delta, real}
 use Rattle.neldermead_theory.specs.Algorithm.{SimplexPosition, vertex, butLast, others, anyFinite, corners, centroid, towards, size, converged, reason}
 use Rattle.neldermead_theory.specs.Phases.{drawn}
-use Rattle.neldermead_vertices.specs.Vertices.{vertexAt, summedOf, centroidOf, cornerOf, size_of, anyFiniteOf, flatOf, convergedOf}
+use Rattle.neldermead_vertices.specs.Vertices.{vertexAt, summedOf, centroidOf, cornerOf, sizeOf, anyFiniteOf, flatOf, convergedOf}
 use Rattle.neldermead_theory.specs.Ties.{lowered, loweredTo, Reads}
 use Rattle.neldermead_theory.proofs.CountsLengths.{corners-many as corners-length, others-length}
-use Rattle.neldermead_theory.proofs.TiesOrder.{get_d_map, many, vertex-at, one_more, butlast-of}
+use Rattle.neldermead_theory.proofs.TiesOrder.{getD-map, many, vertex-at, one-more, butlast-of}
 
 -- ---- the points of a new simplex
 
@@ -81,7 +81,7 @@ zeros-first n small x =
     each k h =
         point-laws.read n (replicate 16 plusZero) k h
         ∙ get_or-replicate 16 k plusZero nan (omega arith)
-        ∙ sym (get_d_map (λ v. plusZero) (first n x) k nan nan (rw (listed x) h))
+        ∙ sym (getD-map (λ v. plusZero) (first n x) k nan nan (rw (listed x) h))
 
 -- ---- seventeen vertices
 module _ (n : ℕ) (v : List Vertex) (small : n ≤ 16) (long : length v ≡ 17) where
@@ -90,7 +90,7 @@ module _ (n : ℕ) (v : List Vertex) (small : n ≤ 16) (long : length v ≡ 17)
   any-finite zero h = refl
   any-finite (suc k) h =
       ap (λ (b : Bool). b || finiteOf (vertexAt v k).f) (any-finite k (omega arith))
-      ∙ sym (ap anyFinite (one_more n v small long k h) ∙ or-more (loweredTo n k v) (lowered n (vertexAt v k)))
+      ∙ sym (ap anyFinite (one-more n v small long k h) ∙ or-more (loweredTo n k v) (lowered n (vertexAt v k)))
 
   summed-of : (c : List Float) → first n (replicate 16 plusZero) ≡ c → (k : ℕ) → k ≤ 17 → first n (summedOf v n k) ≡ foldl (λ c u. addition c u.x) c (loweredTo n k v)
   unfolding summedOf
@@ -98,15 +98,15 @@ module _ (n : ℕ) (v : List Vertex) (small : n ≤ 16) (long : length v ≡ 17)
   summed-of c e (suc k) h =
       ties.addition-of (summedOf v n k) (vertexAt v k).x n
       ∙ ap (λ s. addition s (first n (vertexAt v k).x)) (summed-of c e k (omega arith))
-      ∙ sym (ap (foldl (λ c u. addition c u.x) c) (one_more n v small long k h) ∙ foldl-append (λ c u. addition c u.x) c (loweredTo n k v) (lowered n (vertexAt v k) ∷ []))
+      ∙ sym (ap (foldl (λ c u. addition c u.x) c) (one-more n v small long k h) ∙ foldl-append (λ c u. addition c u.x) c (loweredTo n k v) (lowered n (vertexAt v k) ∷ []))
 
   -- the distance of a vertex from the best, whose point is b
   abbrev farthest : List Float → Float → Vertex → Float
-  farthest b m u = max_of m (infNorm (difference u.x b))
+  farthest b m u = maxOf m (infNorm (difference u.x b))
 
-  size-to : (k : ℕ) → k < 17 → size_of v n k ≡ foldl (farthest (first n (vertexAt v 0).x)) plusZero (others (loweredTo n (suc k) v))
-  unfolding size_of
-  size-to zero h = sym (ap (λ us. foldl (farthest (first n (vertexAt v 0).x)) plusZero (others us)) (one_more n v small long 0 h))
+  size-to : (k : ℕ) → k < 17 → sizeOf v n k ≡ foldl (farthest (first n (vertexAt v 0).x)) plusZero (others (loweredTo n (suc k) v))
+  unfolding sizeOf
+  size-to zero h = sym (ap (λ us. foldl (farthest (first n (vertexAt v 0).x)) plusZero (others us)) (one-more n v small long 0 h))
   size-to (suc k) h =
       let b = (vertexAt v 0).x in
       let f = farthest (first n b) in
@@ -114,8 +114,8 @@ module _ (n : ℕ) (v : List Vertex) (small : n ≤ 16) (long : length v ≡ 17)
       let next : infNormOf (differenceOf (vertexAt v (k + 1)).x b n) n ≡ infNorm (difference (first n u.x) (first n b)) =
       rw (add-one k) (ties.inf-norm (differenceOf u.x b n) n ∙ ap infNorm (ties.difference-of u.x b n)) in
       let some : 0 < length (loweredTo n (suc k) v) = omega (arith, many n v small long (suc k) (omega arith)) in
-      ap₂ (λ m d. max_of m d) (size-to k (omega arith)) next
-      ∙ sym (ap (λ us. foldl f plusZero (others us)) (one_more n v small long (suc k) h)
+      ap₂ (λ m d. maxOf m d) (size-to k (omega arith)) next
+      ∙ sym (ap (λ us. foldl f plusZero (others us)) (one-more n v small long (suc k) h)
       ∙ ap (foldl f plusZero) (others-more (loweredTo n (suc k) v) (lowered n u) some)
       ∙ foldl-append f plusZero (others (loweredTo n (suc k) v)) (lowered n u ∷ []))
 
@@ -127,8 +127,8 @@ module _ (n : ℕ) (v : List Vertex) (small : n ≤ 16) (long : length v ≡ 17)
     point-of : (i : ℕ) → i ≤ n → (vertex p i).x ≡ first n (vertexAt v i).x
     point-of i h = ap (λ u. u.x) (vertex-of i h)
 
-    value_of : (i : ℕ) → i ≤ n → (vertex p i).f ≡ (vertexAt v i).f
-    value_of i h = ap (λ u. u.f) (vertex-of i h)
+    value-of : (i : ℕ) → i ≤ n → (vertex p i).f ≡ (vertexAt v i).f
+    value-of i h = ap (λ u. u.f) (vertex-of i h)
 
     pub centroid-of : first n (centroidOf v n) ≡ centroid p
     unfolding centroidOf centroid
@@ -144,7 +144,7 @@ module _ (n : ℕ) (v : List Vertex) (small : n ≤ 16) (long : length v ≡ 17)
         ties.towards-of (centroidOf v n) (vertexAt v n).x t n
         ∙ ap₂ (λ c w. between c w t) centroid-of (sym (ap (λ (m : ℕ). (vertex p m).x) r.count ∙ point-of n (omega arith)))
 
-    pub size-of : size_of v n n ≡ size p
+    pub size-of : sizeOf v n n ≡ size p
     unfolding size
     size-of =
         size-to n (omega arith)
@@ -153,13 +153,13 @@ module _ (n : ℕ) (v : List Vertex) (small : n ≤ 16) (long : length v ≡ 17)
     pub converged-of : convergedOf o v n ≡ converged p
     unfolding convergedOf flatOf converged
     converged-of =
-        rw (← size-of, r.options, r.count, value_of n (omega arith), value_of 0 zero-le, point-of 0 zero-le, ties.inf-norm (vertexAt v 0).x n)
-        (cond-and (le (size_of v n n) (max_of o.xtol (resolution (infNorm (first n (vertexAt v 0).x)))))
-        (le (absOf ((vertexAt v n).f ⊖ (vertexAt v 0).f)) (max_of o.ftol (resolution (absOf (vertexAt v 0).f)))))
+        rw (← size-of, r.options, r.count, value-of n (omega arith), value-of 0 zero-le, point-of 0 zero-le, ties.inf-norm (vertexAt v 0).x n)
+        (cond-and (le (sizeOf v n n) (maxOf o.xtol (resolution (infNorm (first n (vertexAt v 0).x)))))
+        (le (absOf ((vertexAt v n).f ⊖ (vertexAt v 0).f)) (maxOf o.ftol (resolution (absOf (vertexAt v 0).f)))))
 
     pub reason-of : cond (lt o.ftol (resolution (absOf (vertexAt v 0).f))) ObjectiveResolution SimplexTolerance ≡ reason p
     unfolding reason
-    reason-of = rw (r.options, value_of 0 zero-le)
+    reason-of = rw (r.options, value-of 0 zero-le)
 
     some-others : length (others p.vertices) ≡ n
     some-others = others-length p.vertices n (ap length r.vertices ∙ many n v small long (suc n) (omega arith))
@@ -170,5 +170,5 @@ module _ (n : ℕ) (v : List Vertex) (small : n ≤ 16) (long : length v ≡ 17)
     pub drawn-at : (d : List Float) (i : ℕ) → i < n → get_or (drawn p) i d ≡ first n (shrunkOf (vertexAt v 0).x (vertexAt v (suc i)).x (delta o n) n)
     drawn-at d i h =
         let other : get_or (others p.vertices) i p.best ≡ lowered n (vertexAt v (suc i)) = others-at p.vertices i p.best ∙ vertex-of (suc i) h in
-        get_d_map (λ u. shrunk (vertex p 0).x u.x (delta p.options p.n)) (others p.vertices) i p.best d (rw some-others h)
+        getD-map (λ u. shrunk (vertex p 0).x u.x (delta p.options p.n)) (others p.vertices) i p.best d (rw some-others h)
         ∙ rw (other, point-of 0 zero-le, r.options, r.count) (sym (ties.shrunk-of (vertexAt v 0).x (vertexAt v (suc i)).x (delta o n) n))

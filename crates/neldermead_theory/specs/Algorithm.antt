@@ -5,12 +5,12 @@ use mathlib.Core.List.{List, [], ◌∷◌, ◌++◌, map, foldl}
 use Rattle.std.specs.Float.{inf}
 use Rattle.std.specs.Float.Ieee.{neg, lt, le}
 use Rattle.float.specs.Binary64.{◌⊖◌, ◌⊗◌, plusZero}
-use Rattle.float.specs.Values.{absOf, finiteOf, max_of}
+use Rattle.float.specs.Values.{absOf, finiteOf, maxOf}
 use Rattle.vector.specs.Lists.{addition, quotient, difference, infNorm, allFinite, towards as between, shrunk}
 use Rattle.protocol.specs.declared.SimplexOptions.{SimplexOptions}
 use Rattle.protocol.specs.declared.Termination.{Termination}
 use Rattle.protocol.specs.declared.Termination.TheVariants.{SimplexTolerance, ObjectiveResolution}
-use Rattle.protocol.specs.Protocol.{read_of}
+use Rattle.protocol.specs.Protocol.{readOf}
 use Rattle.protocol.specs.Ask.{Ask, finish, askValue, ◌>>=◌}
 use Rattle.protocol.specs.Rounds.{Ending, atHead, fails, Verdict, goOn, stop, restart, Rounds}
 use Rattle.neldermead_vertices.specs.declared.Vertex.{Vertex}
@@ -30,7 +30,7 @@ corners initial front (v ∷ vs) = (front ++ (displaced initial v ∷ vs)) ∷ c
 
 -- c.value(&x)
 abbrev pub askVertex : List Float → Ask Vertex
-askVertex x = askValue read_of x >>= λ v. finish (record { x = x; f = v })
+askVertex x = askValue readOf x >>= λ v. finish (record { x = x; f = v })
 
 -- simplex.iter().map(|v| c.value(v)).collect()
 unfoldable pub askVertices : List (List Float) → Ask (List Vertex)
@@ -137,14 +137,14 @@ round p = askVertex (towards p alpha) >>= reflected (iterated p)
 
 -- the largest distance of a vertex from the best one: simplex[1..] .. .map(|(a, b)| (a - b).abs()) .fold(0.0, f64::max) .. .fold(0.0, f64::max)
 unfoldable pub size : SimplexPosition → Float
-size p = foldl (λ m u. max_of m (infNorm (difference u.x (vertex p 0).x))) plusZero (others p.vertices)
+size p = foldl (λ m u. maxOf m (infNorm (difference u.x (vertex p 0).x))) plusZero (others p.vertices)
 
 -- size <= x_stop && spread.abs() <= f_stop
 unfoldable pub converged : SimplexPosition → Bool
 unfolding size resolution
 converged p =
-    le (size p) (max_of p.options.xtol (resolution (infNorm (vertex p 0).x)))
-    && le (absOf ((vertex p p.n).f ⊖ (vertex p 0).f)) (max_of p.options.ftol (resolution (absOf (vertex p 0).f)))
+    le (size p) (maxOf p.options.xtol (resolution (infNorm (vertex p 0).x)))
+    && le (absOf ((vertex p p.n).f ⊖ (vertex p 0).f)) (maxOf p.options.ftol (resolution (absOf (vertex p 0).f)))
 
 -- ObjectiveResolution where opts.f_tol < f_resolution, else SimplexTolerance
 unfoldable pub reason : SimplexPosition → Termination

@@ -7,7 +7,7 @@ use Rattle.vector.specs.Ties.{ZeroFrom}
 use Rattle.protocol.specs.declared.GradientOptions.{GradientOptions}
 use Rattle.protocol.specs.declared.Termination.{Termination}
 use Rattle.protocol.specs.declared.Termination.TheVariants.{GradientTolerance, SimplexTolerance, StepTolerance, FunctionTolerance, MaxIterations, MaxFevals, LineSearchFailed, GradientFailed, ObjectiveResolution}
-use Rattle.protocol.specs.Protocol.{read_of}
+use Rattle.protocol.specs.Protocol.{readOf}
 use Rattle.protocol.specs.Claim.{limit}
 use Rattle.protocol.specs.Rounds.{atHead, stops, fails, Verdict, goOn, stop, restart, Rounds, FitLimits, reached}
 use Rattle.protocol.specs.Fits.{fits}
@@ -16,9 +16,9 @@ use Rattle.neldermead_vertices.specs.declared.Vertex.{Vertex}
 use Rattle.neldermead.specs.declared.Fixed.{Fixed}
 use Rattle.neldermead.specs.declared.Simplex.{Simplex}
 use Rattle.neldermead_theory.specs.Algorithm.{SimplexPosition, vertex, centroid, corners, tests, nowhere, nelderMead}
-use Rattle.neldermead_theory.specs.Phases.{Phase, building, reflecting, expanding, outside, inside, shrinking, point_of, Move, drawn, step_of, buildAt, simplexSteps}
+use Rattle.neldermead_theory.specs.Phases.{Phase, building, reflecting, expanding, outside, inside, shrinking, pointOf, Move, drawn, stepOf, buildAt, simplexSteps}
 use Rattle.neldermead_vertices.specs.Vertices.{vertexAt}
-use Rattle.neldermead.specs.Step.{building as buildingMark, reflecting as reflectingMark, expanding as expandingMark, contractingOutside, contractingInside, shrinking as shrinkingMark, byTolerance, byResolution, bySimplexIterations, bySimplexFevals, notFinite, toldOf, start_of}
+use Rattle.neldermead.specs.Step.{building as buildingMark, reflecting as reflectingMark, expanding as expandingMark, contractingOutside, contractingInside, shrinking as shrinkingMark, byTolerance, byResolution, bySimplexIterations, bySimplexFevals, notFinite, toldOf, startOf}
 use Rattle.neldermead_theory.specs.Ties.{lowered, loweredTo}
 
 -- ---- what holds of the arrays
@@ -42,22 +42,22 @@ pub record SimplexShaped (n : ℕ) (s : Simplex) : Type 0 where
 -- ---- what ties the record to a phase
 
 -- the mark of a phase
-abbrev pub mark_of : Phase → ℕ
-mark_of (building p us x xs) = buildingMark
-mark_of (reflecting p) = reflectingMark
-mark_of (expanding p r) = expandingMark
-mark_of (outside p r) = contractingOutside
-mark_of (inside p) = contractingInside
-mark_of (shrinking p us x xs) = shrinkingMark
+abbrev pub markOf : Phase → ℕ
+markOf (building p us x xs) = buildingMark
+markOf (reflecting p) = reflectingMark
+markOf (expanding p r) = expandingMark
+markOf (outside p r) = contractingOutside
+markOf (inside p) = contractingInside
+markOf (shrinking p us x xs) = shrinkingMark
 
 -- the position of a phase
-abbrev pub position_of : Phase → SimplexPosition
-position_of (building p us x xs) = p
-position_of (reflecting p) = p
-position_of (expanding p r) = p
-position_of (outside p r) = p
-position_of (inside p) = p
-position_of (shrinking p us x xs) = p
+abbrev pub positionOf : Phase → SimplexPosition
+positionOf (building p us x xs) = p
+positionOf (reflecting p) = p
+positionOf (expanding p r) = p
+positionOf (outside p r) = p
+positionOf (inside p) = p
+positionOf (shrinking p us x xs) = p
 
 -- the point about which a simplex is built: the first vertex, or the open point until that is told
 abbrev pub seedOf : Simplex → List Float
@@ -107,9 +107,9 @@ module _ (fit : Fixed) (s : Simplex) where
 
   -- the record is at the phase
   pub record Related (ph : Phase) : Type 0 where
-    pub mark : s.phase ≡ mark_of ph
-    pub point : first fit.n s.x ≡ point_of ph
-    pub position : AtPosition (position_of ph)
+    pub mark : s.phase ≡ markOf ph
+    pub point : first fit.n s.x ≡ pointOf ph
+    pub position : AtPosition (positionOf ph)
     pub holds : Holds ph
 
   -- the mark is that of the reason; a simplex fit has no other
@@ -179,12 +179,12 @@ pub record SimplexAllows (fit : Fixed) (l : FitLimits) : Type 0 where
 
 pub record SimplexFollows : Type 0 where
   -- the start is at the first question of a simplex about the point
-  pub starts : (fit : Fixed) (x : List Float) → RelatedMove fit (start_of x) (buildAt (nowhere fit.options (first fit.n x)) (first fit.n x))
+  pub starts : (fit : Fixed) (x : List Float) → RelatedMove fit (startOf x) (buildAt (nowhere fit.options (first fit.n x)) (first fit.n x))
   -- whatever word w is told, and after whatever count v
   pub follows : (fit : Fixed) (l : FitLimits) (s : Simplex) (ph : Phase) → SimplexAllows fit l → SimplexShaped fit.n s → Related fit s ph
-      → (w : Float) (v : ℕ) → RelatedMove fit (toldOf fit s (read_of w) v) (settledMove l v (step_of ph (w ∷ [])))
+      → (w : Float) (v : ℕ) → RelatedMove fit (toldOf fit s (readOf w) v) (settledMove l v (stepOf ph (w ∷ [])))
   -- sizes last, and every coordinate past n is +0.0
-  pub start-shaped : (n : ℕ) (x : List Float) → 1 ≤ n → n ≤ 16 → length x ≡ 16 → SimplexShaped n (start_of x)
+  pub start-shaped : (n : ℕ) (x : List Float) → 1 ≤ n → n ≤ 16 → length x ≡ 16 → SimplexShaped n (startOf x)
   pub told-shaped : (fit : Fixed) (s : Simplex) (f : Float) (v : ℕ) → SimplexShaped fit.n s → SimplexShaped fit.n (toldOf fit s f v)
-  pub start-zeros : (n : ℕ) (x : List Float) → ZeroFrom n x → EveryPoint (ZeroFrom n) (start_of x)
+  pub start-zeros : (n : ℕ) (x : List Float) → ZeroFrom n x → EveryPoint (ZeroFrom n) (startOf x)
   pub told-zeros : (fit : Fixed) (s : Simplex) (f : Float) (v : ℕ) → SimplexShaped fit.n s → EveryPoint (ZeroFrom fit.n) s → EveryPoint (ZeroFrom fit.n) (toldOf fit s f v)

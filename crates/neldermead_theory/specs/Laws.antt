@@ -4,7 +4,7 @@ use mathlib.Core.List.{List, [], Memᴰ}
 use Rattle.float.specs.Binary64.{NotAbove}
 use Rattle.float.specs.Values.{Finite}
 use Rattle.protocol.specs.declared.GradientOptions.{GradientOptions}
-use Rattle.protocol.specs.Protocol.{read_of}
+use Rattle.protocol.specs.Protocol.{readOf}
 use Rattle.protocol.specs.Dialogue.{Exchange, Told}
 use Rattle.protocol.specs.Claim.{Claim}
 use Rattle.protocol.specs.Ask.{finish}
@@ -16,7 +16,7 @@ use Rattle.neldermead_theory.specs.Algorithm.{SimplexPosition, nelderMead}
 
 -- the vertex's value is what was read of a word told for its point
 abbrev pub VertexTold : List Exchange → Vertex → Type 0
-VertexTold es u = (w : Float) × Told es u.x w × (read_of w ≡ u.f)
+VertexTold es u = (w : Float) × Told es u.x w × (readOf w ≡ u.f)
 
 -- P of each vertex of us
 abbrev pub All : (Vertex → Type 0) → List Vertex → Type 0
@@ -24,7 +24,7 @@ All P us = (u : Vertex) → Memᴰ u us → P u
 
 -- each value told is not below the best's, or not below that of one of us
 abbrev pub Cover : List Exchange → Vertex → List Vertex → Type 0
-Cover es b us = (x : List Float) (v : Float) → Told es x v → NotAbove b.f (read_of v) ⊎ ((u : Vertex) × Memᴰ u us × NotAbove u.f (read_of v))
+Cover es b us = (x : List Float) (v : Float) → Told es x v → NotAbove b.f (readOf v) ⊎ ((u : Vertex) × Memᴰ u us × NotAbove u.f (readOf v))
 
 -- the best is told, and finite
 abbrev pub BestTold : List Exchange → Vertex → Type 0

@@ -6,7 +6,7 @@ use Rattle.float.specs.Binary64.{◌⊗◌}
 use Rattle.vector.specs.Lists.{allFinite, shrunk}
 use Rattle.protocol.specs.declared.Kind.TheVariants.{Value}
 use Rattle.protocol.specs.declared.SimplexOptions.{SimplexOptions}
-use Rattle.protocol.specs.Protocol.{read_of}
+use Rattle.protocol.specs.Protocol.{readOf}
 use Rattle.protocol.specs.Rounds.{atHead, fails}
 use Rattle.protocol.specs.Places.{Turn, still, ends, Steps}
 use Rattle.neldermead_vertices.specs.declared.Vertex.{Vertex}
@@ -23,13 +23,13 @@ pub data Phase : Type 0 where
   shrinking : SimplexPosition → List Vertex → List Float → List (List Float) → Phase
 
 -- the point of the open question
-abbrev pub point_of : Phase → List Float
-point_of (building p us x xs) = x
-point_of (reflecting p) = towards p alpha
-point_of (expanding p r) = towards p (alpha ⊗ beta p.options p.n)
-point_of (outside p r) = towards p (alpha ⊗ gamma p.options p.n)
-point_of (inside p) = towards p (neg (gamma p.options p.n))
-point_of (shrinking p us x xs) = x
+abbrev pub pointOf : Phase → List Float
+pointOf (building p us x xs) = x
+pointOf (reflecting p) = towards p alpha
+pointOf (expanding p r) = towards p (alpha ⊗ beta p.options p.n)
+pointOf (outside p r) = towards p (alpha ⊗ gamma p.options p.n)
+pointOf (inside p) = towards p (neg (gamma p.options p.n))
+pointOf (shrinking p us x xs) = x
 
 abbrev pub Move : Type 0
 Move = Turn Phase SimplexPosition
@@ -62,10 +62,10 @@ move (inside p) u = cond (lt u.f (vertex p p.n).f) (ends (replaced p u)) (shrink
 move (shrinking p us x xs) u = shrinkOn p (us ++ (u ∷ [])) xs
 
 abbrev pub told : List Float → List Float → Vertex
-told x w = record { x = x; f = read_of (get_or w 0 nan) }
+told x w = record { x = x; f = readOf (get_or w 0 nan) }
 
-abbrev pub step_of : Phase → List Float → Move
-step_of s w = move s (told (point_of s) w)
+abbrev pub stepOf : Phase → List Float → Move
+stepOf s w = move s (told (pointOf s) w)
 
 -- the first question of a simplex about x
 abbrev pub buildAt : SimplexPosition → List Float → Move
@@ -84,8 +84,8 @@ abbrev pub simplexSteps : Steps nelderMead
 simplexSteps = record {
   Place = Phase;
   kind = λ s. Value;
-  point = point_of;
-  step = step_of;
+  point = pointOf;
+  step = stepOf;
   opening = openingMove;
   again = λ p. buildAt (rerun p) p.best.x;
   round = λ p. still (reflecting (iterated p));

@@ -13,7 +13,7 @@ use Rattle.neldermead_vertices.specs.Order.{inOrder}
 use Rattle.neldermead_vertices.specs.Method.{better, resolution, delta}
 use Rattle.neldermead_theory.specs.Algorithm.{SimplexPosition, vertex, butLast, anyFinite, corners, centroid, towards, size, converged, reason}
 use Rattle.neldermead_theory.specs.Phases.{drawn}
-use Rattle.neldermead_vertices.specs.Vertices.{vertexAt, sortedOf, centroidOf, cornerOf, size_of, anyFiniteOf, convergedOf}
+use Rattle.neldermead_vertices.specs.Vertices.{vertexAt, sortedOf, centroidOf, cornerOf, sizeOf, anyFiniteOf, convergedOf}
 
 -- the vertex with the first n coordinates alone
 abbrev pub lowered : ℕ → Vertex → Vertex
@@ -35,7 +35,7 @@ pub record VerticesTied (n : ℕ) (v : List Vertex) : Type 0 where
   pub many : (k : ℕ) → k ≤ 17 → length (loweredTo n k v) ≡ k
   pub vertex-at : (d : Vertex) (i : ℕ) → i ≤ n → get_or (loweredTo n (suc n) v) i d ≡ lowered n (vertexAt v i)
   -- the order of the first n + 1; each vertex past n stays, and none is new
-  pub sorted_of : loweredTo n (suc n) (sortedOf v n) ≡ inOrder (loweredTo n (suc n) v)
+  pub sorted-of : loweredTo n (suc n) (sortedOf v n) ≡ inOrder (loweredTo n (suc n) v)
   pub sorted-many : length (sortedOf v n) ≡ 17
   pub sorted-past : (i : ℕ) → n < i → vertexAt (sortedOf v n) i ≡ vertexAt v i
   pub sorted-from : (i : ℕ) → i < 17 → (j : ℕ) × (j < 17) × (vertexAt (sortedOf v n) i ≡ vertexAt v j)
@@ -43,7 +43,7 @@ pub record VerticesTied (n : ℕ) (v : List Vertex) : Type 0 where
   pub vertex-of : (o : SimplexOptions) (p : SimplexPosition) → Reads o n v p → (i : ℕ) → i ≤ n → vertex p i ≡ lowered n (vertexAt v i)
   pub centroid-of : (o : SimplexOptions) (p : SimplexPosition) → Reads o n v p → first n (centroidOf v n) ≡ centroid p
   pub towards-of : (o : SimplexOptions) (p : SimplexPosition) → Reads o n v p → (t : Float) → first n (towardsOf (centroidOf v n) (vertexAt v n).x t n) ≡ towards p t
-  pub size-of : (o : SimplexOptions) (p : SimplexPosition) → Reads o n v p → size_of v n n ≡ size p
+  pub size-of : (o : SimplexOptions) (p : SimplexPosition) → Reads o n v p → sizeOf v n n ≡ size p
   pub converged-of : (o : SimplexOptions) (p : SimplexPosition) → Reads o n v p → convergedOf o v n ≡ converged p
   pub reason-of : (o : SimplexOptions) (p : SimplexPosition) → Reads o n v p
       → cond (lt o.ftol (resolution (absOf (vertexAt v 0).f))) ObjectiveResolution SimplexTolerance ≡ reason p
@@ -58,8 +58,8 @@ pub record VerticesTied (n : ℕ) (v : List Vertex) : Type 0 where
   pub any-finite : (k : ℕ) → k ≤ 17 → anyFiniteOf v k ≡ anyFinite (loweredTo n k v)
   -- one vertex replaced: one of k, the next after k, the last of n + 1
   pub set-inside : (k i : ℕ) (u : Vertex) → i < k → loweredTo n k (set v i u) ≡ set (loweredTo n k v) i (lowered n u)
-  pub set_next : (k : ℕ) (u : Vertex) → k < 17 → loweredTo n (suc k) (set v k u) ≡ loweredTo n k v ++ (lowered n u ∷ [])
-  pub set_last : (u : Vertex) → loweredTo n (suc n) (set v n u) ≡ butLast (loweredTo n (suc n) v) ++ (lowered n u ∷ [])
+  pub set-next : (k : ℕ) (u : Vertex) → k < 17 → loweredTo n (suc k) (set v k u) ≡ loweredTo n k v ++ (lowered n u ∷ [])
+  pub set-last : (u : Vertex) → loweredTo n (suc n) (set v n u) ≡ butLast (loweredTo n (suc n) v) ++ (lowered n u ∷ [])
   pub better-of : (u b : Vertex) → lowered n (better u b) ≡ better (lowered n u) (lowered n b)
 
 -- ---- coordinates past n

@@ -10,13 +10,13 @@ use lib.Seq.{slice, slice-cons, slice_empty, length-slice, length-take-le, take-
 use Rattle.float.specs.Order.{precedesOf}
 use Rattle.neldermead_vertices.specs.declared.Vertex.{Vertex}
 use Rattle.neldermead_vertices.specs.Order.{insert, inOrder}
-use Rattle.neldermead_vertices.specs.Vertices.{noVertex, vertexAt, put_of, insertedOf}
+use Rattle.neldermead_vertices.specs.Vertices.{noVertex, vertexAt, putOf, insertedOf}
 
 -- ---- one vertex u: the place j is free for it
 module _ (u : Vertex) (w : List Vertex) (n : ℕ) (long : n < length w) where
   -- it stands behind the next, which moves up
-  pub put-goes : (j : ℕ) → j < n → precedesOf (vertexAt w (j + 1)).f u.f ≡ true → put_of u (set w j (vertexAt w (j + 1))) (j + 1) n ≡ put_of u w j n
-  unfolding put_of insert
+  pub put-goes : (j : ℕ) → j < n → precedesOf (vertexAt w (j + 1)).f u.f ≡ true → putOf u (set w j (vertexAt w (j + 1))) (j + 1) n ≡ putOf u w j n
+  unfolding putOf insert
   put-goes j h t =
       let p = vertexAt w (suc j) in
       let t' : precedesOf p.f u.f ≡ true = rw (add-one j) at t in
@@ -25,8 +25,8 @@ module _ (u : Vertex) (w : List Vertex) (n : ℕ) (long : n < length w) where
       rw (add-one j, rest, past, take-suc-set w j p (omega arith), slice-cons (suc j) (suc n) w noVertex (omega arith) (omega arith), t', append_snoc)
 
   -- it stands before the next
-  pub put-stays : (j : ℕ) → j < n → precedesOf (vertexAt w (j + 1)).f u.f ≡ false → set w j u ≡ put_of u w j n
-  unfolding put_of insert
+  pub put-stays : (j : ℕ) → j < n → precedesOf (vertexAt w (j + 1)).f u.f ≡ false → set w j u ≡ putOf u w j n
+  unfolding putOf insert
   put-stays j h t =
       let t' : precedesOf (vertexAt w (suc j)).f u.f ≡ false = rw (add-one j) at t in
       let rest : drop (suc j) w ≡ slice (suc j) (suc n) w ++ drop (suc n) w =
@@ -34,13 +34,13 @@ module _ (u : Vertex) (w : List Vertex) (n : ℕ) (long : n < length w) where
       rw (set_split w j u (omega arith), rest, slice-cons (suc j) (suc n) w noVertex (omega arith) (omega arith), t')
 
   -- none is left
-  pub put-ends : set w n u ≡ put_of u w n n
-  unfolding put_of insert
+  pub put-ends : set w n u ≡ putOf u w n n
+  unfolding putOf insert
   put-ends = rw (set_split w n u (omega arith), slice_empty (suc n) w)
 
 -- ---- all of them: those from i on are in order
-unfoldable pub sorted_from : List Vertex → ℕ → ℕ → List Vertex
-sorted_from v n i = take i v ++ (inOrder (slice i (suc n) v) ++ drop (suc n) v)
+unfoldable pub sortedFrom : List Vertex → ℕ → ℕ → List Vertex
+sortedFrom v n i = take i v ++ (inOrder (slice i (suc n) v) ++ drop (suc n) v)
 
 length-insert : (u : Vertex) (us : List Vertex) → length (insert u us) ≡ suc (length us)
 unfolding insert
@@ -57,13 +57,13 @@ length-in-order [] = refl
 length-in-order (u ∷ us) = length-insert u (inOrder us) ∙ ap suc (length-in-order us)
 
 module _ (v : List Vertex) (n : ℕ) (long : n < length v) where
-  pub sorted-starts : v ≡ sorted_from v n n
-  unfolding sorted_from inOrder insert
+  pub sorted-starts : v ≡ sortedFrom v n n
+  unfolding sortedFrom inOrder insert
   sorted-starts = split_at v n noVertex long ∙ sym (rw (slice-cons n (suc n) v noVertex (omega arith) (omega arith), slice_empty (suc n) v))
 
-  sorted_back : (i : ℕ) → i < n → insertedOf (sorted_from v n (suc i)) i n ≡ sorted_from v n i
-  unfolding insertedOf put_of sorted_from inOrder
-  sorted_back i h =
+  sorted-back : (i : ℕ) → i < n → insertedOf (sortedFrom v n (suc i)) i n ≡ sortedFrom v n i
+  unfolding insertedOf putOf sortedFrom inOrder
+  sorted-back i h =
       let s = slice (suc i) (suc n) v in
       let d = drop (suc n) v in
       let w = take (suc i) v ++ (inOrder s ++ d) in
@@ -79,8 +79,8 @@ module _ (v : List Vertex) (n : ℕ) (long : n < length v) where
       let four : drop (suc n) w ≡ d = ap (drop (suc n)) parted ∙ drop_at (take (suc i) v ++ inOrder s) d (suc n) all in
       rw (one, two, three, four, slice-cons i (suc n) v noVertex (omega arith) (omega arith))
 
-  pub sorted-goes : (i : ℕ) → 0 < i → i ≤ n → insertedOf (sorted_from v n i) (i - 1) n ≡ sorted_from v n (i - 1)
+  pub sorted-goes : (i : ℕ) → 0 < i → i ≤ n → insertedOf (sortedFrom v n i) (i - 1) n ≡ sortedFrom v n (i - 1)
   sorted-goes zero p h = absurd (omega arith)
   sorted-goes (suc i) p h =
       let e : suc i - 1 ≡ i = omega arith in
-      rw e (sorted_back i (omega arith))
+      rw e (sorted-back i (omega arith))

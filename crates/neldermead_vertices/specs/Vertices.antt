@@ -4,9 +4,9 @@ use Rattle.std.proofs.Math.Seq.{slice}
 use Rattle.std.specs.Float.{nan}
 use Rattle.std.specs.Float.Ieee.{le}
 use Rattle.float.specs.Binary64.{◌⊖◌, plusZero}
-use Rattle.float.specs.Values.{absOf, finiteOf, max_of}
+use Rattle.float.specs.Values.{absOf, finiteOf, maxOf}
 use Rattle.vector.specs.Loops.{fold, at}
-use Rattle.vector.specs.Points.{infNormOf, differenceOf, additionOf, quotient_of}
+use Rattle.vector.specs.Points.{infNormOf, differenceOf, additionOf, quotientOf}
 use Rattle.protocol.specs.declared.SimplexOptions.{SimplexOptions}
 use Rattle.neldermead_vertices.specs.declared.Vertex.{Vertex}
 use Rattle.neldermead_vertices.specs.Order.{insert, inOrder}
@@ -21,13 +21,13 @@ abbrev pub vertexAt : List Vertex → ℕ → Vertex
 vertexAt v i = get_or v i noVertex
 
 -- v with u in the place of vertex i, put among those after it up to n
-unfoldable pub put_of : Vertex → List Vertex → ℕ → ℕ → List Vertex
-put_of u v i n = take i v ++ (insert u (slice (suc i) (suc n) v) ++ drop (suc n) v)
+unfoldable pub putOf : Vertex → List Vertex → ℕ → ℕ → List Vertex
+putOf u v i n = take i v ++ (insert u (slice (suc i) (suc n) v) ++ drop (suc n) v)
 
 -- vertex i put among those after it up to n, which are in order: what a turn of `sorted` does
 unfoldable pub insertedOf : List Vertex → ℕ → ℕ → List Vertex
-unfolding put_of
-insertedOf v i n = put_of (vertexAt v i) v i n
+unfolding putOf
+insertedOf v i n = putOf (vertexAt v i) v i n
 
 -- the first n + 1 in order
 unfoldable pub sortedOf : List Vertex → ℕ → List Vertex
@@ -40,15 +40,15 @@ summedOf v n = fold (λ sum i. additionOf sum (vertexAt v i).x n) (replicate 16 
 -- the mean of the first n
 unfoldable pub centroidOf : List Vertex → ℕ → List Float
 unfolding summedOf
-centroidOf v n = quotient_of (summedOf v n n) (real n) n
+centroidOf v n = quotientOf (summedOf v n n) (real n) n
 
 -- the seed with coordinate i displaced
 unfoldable pub cornerOf : Float → List Float → ℕ → List Float
 cornerOf initial x i = set x i (displaced initial (at x i))
 
 -- the largest distance of the k vertices after the first from it
-unfoldable pub size_of : List Vertex → ℕ → ℕ → Float
-size_of v n = fold (λ m i. max_of m (infNormOf (differenceOf (vertexAt v (i + 1)).x (vertexAt v 0).x n) n)) plusZero
+unfoldable pub sizeOf : List Vertex → ℕ → ℕ → Float
+sizeOf v n = fold (λ m i. maxOf m (infNormOf (differenceOf (vertexAt v (i + 1)).x (vertexAt v 0).x n) n)) plusZero
 
 -- one of the first k values is finite
 unfoldable pub anyFiniteOf : List Vertex → ℕ → Bool
@@ -56,9 +56,9 @@ anyFiniteOf v = fold (λ b i. b || finiteOf (vertexAt v i).f) false
 
 -- the spread of values within its tolerance or its floor
 unfoldable pub flatOf : Float → Float → Float → Bool
-flatOf tol least most = le (absOf (most ⊖ least)) (max_of tol (resolution (absOf least)))
+flatOf tol least most = le (absOf (most ⊖ least)) (maxOf tol (resolution (absOf least)))
 
 -- size and spread within their tolerances or their floors
 unfoldable pub convergedOf : SimplexOptions → List Vertex → ℕ → Bool
 convergedOf o v n =
-    cond (le (size_of v n n) (max_of o.xtol (resolution (infNormOf (vertexAt v 0).x n)))) (flatOf o.ftol (vertexAt v 0).f (vertexAt v n).f) false
+    cond (le (sizeOf v n n) (maxOf o.xtol (resolution (infNormOf (vertexAt v 0).x n)))) (flatOf o.ftol (vertexAt v 0).f (vertexAt v n).f) false

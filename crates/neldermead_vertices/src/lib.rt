@@ -1,7 +1,7 @@
 // The vertices of a simplex: order, mean, size, and what the tests and coefficients want of them.
 ghost use Rattle.std.specs.Prelude.{◌≡◌, ◌≤◌, ◌<◌};
 ghost use Rattle.neldermead_vertices.specs.Method.{adapts, beta, gamma, delta, displaced, resolution, better};
-ghost use Rattle.neldermead_vertices.specs.Vertices.{sortedOf, centroidOf, cornerOf, size_of, anyFiniteOf, flatOf, convergedOf};
+ghost use Rattle.neldermead_vertices.specs.Vertices.{sortedOf, centroidOf, cornerOf, sizeOf, anyFiniteOf, flatOf, convergedOf};
 
 use protocol::SimplexOptions;
 
@@ -84,7 +84,7 @@ pub fn corner(initial: f64, seed: [f64; 16], i: usize) -> [f64; 16]
 // The largest distance of the others of the first n + 1 vertices from the first.
 fn size(v: [Vertex; 17], n: usize) -> f64
     requires { n ≤ 16 }
-    ensures { result ≡ size_of v n n }
+    ensures { result ≡ sizeOf v n n }
 {
     let b = v[0];
     let y = b.x;

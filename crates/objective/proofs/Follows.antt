@@ -13,7 +13,7 @@ use Rattle.float.specs.Binary64.{plusZero}
 use Rattle.vector.specs.Loops.{at}
 use Rattle.vector.specs.Lists.{first}
 use Rattle.vector.proofs.First.{point-laws}
-use Rattle.vector.proofs.Stores.{first-set, first_more}
+use Rattle.vector.proofs.Stores.{first-set, first-more}
 use Rattle.protocol.specs.declared.Kind.TheVariants.{Value}
 use Rattle.protocol.specs.Ask.{finish, query, ◌>>=◌}
 use Rattle.objective.specs.declared.Differences.{Differences}
@@ -22,9 +22,9 @@ use Rattle.objective.specs.Step.{begunOf, probeOf, toldOf}
 use Rattle.objective.specs.Follows.{DifferencesSized, DifferencesZeroPast, toDoAt, toDo, DifferencesFollow}
 
 -- ---- it lasts
-begun_sized : (n : ℕ) (x : List Float) → n ≤ 16 → length x ≡ 16 → DifferencesSized n (begunOf x)
+begun-sized : (n : ℕ) (x : List Float) → n ≤ 16 → length x ≡ 16 → DifferencesSized n (begunOf x)
 unfolding begunOf
-begun_sized n x h l = record { small = h; within = zero-le; point16 = l; gradient16 = refl }
+begun-sized n x h l = record { small = h; within = zero-le; point16 = l; gradient16 = refl }
 
 -- what holds of the record with the backward value told, and with the forward one, holds of what `toldOf` makes
 told-by : (s : Differences) (v : Float) (P : Differences → Type 0)
@@ -99,15 +99,15 @@ module _ (read : Float → Float) where
         let l : i < length x = omega arith in
         rw (first-set n x i, point-laws.read n x i)
 
-    one_more : (v : Float) → differencesFrom read (first n x) (n - suc i) (suc i) (first i g ++ (slopeAt (at (first n x) i) fp v ∷ [])) ≡ toDo read n (toldOf (half true) v)
+    one-more : (v : Float) → differencesFrom read (first n x) (n - suc i) (suc i) (first i g ++ (slopeAt (at (first n x) i) fp v ∷ [])) ≡ toDo read n (toldOf (half true) v)
     unfolding toldOf
-    one_more v =
+    one-more v =
         let l : i < length g = omega arith in
-        rw (add-one i, first_more g i, point-laws.read n x i) (begin-text (first n x) (n - suc i) (suc i) (first i g ++ (slopeAt (at x i) fp v ∷ [])) plusZero)
+        rw (add-one i, first-more g i, point-laws.read n x i) (begin-text (first n x) (n - suc i) (suc i) (first i g ++ (slopeAt (at x i) fp v ∷ [])) plusZero)
 
     halves : (b : Bool) → toDo read n (half b) ≡ query Value (first n (probeOf (half b))) (λ w. toDo read n (toldOf (half b) (read (get_or w 0 nan))))
     unfolding probeOf toldOf differencesFrom ◌>>=◌
-    halves true = rw left (ap₂ (query Value) (set-in backwardOf) (fun_ext (λ w. one_more (read (get_or w 0 nan)))))
+    halves true = rw left (ap₂ (query Value) (set-in backwardOf) (fun_ext (λ w. one-more (read (get_or w 0 nan)))))
     halves false = rw left (ap₂ (query Value) (set-in forwardOf) refl)
 
   next : (n : ℕ) (s : Differences) → DifferencesSized n s → s.at < n → toDo read n s ≡ query Value (first n (probeOf s)) (λ w. toDo read n (toldOf s (read (get_or w 0 nan))))
@@ -119,7 +119,7 @@ module _ (read : Float → Float) where
         begins = begins;
         follows = next;
         ends = ends;
-        begun_sized = begun_sized;
+        begun-sized = begun-sized;
         told-sized = told-sized;
         begun-zeros = begun-zeros;
         told-zeros = told-zeros;

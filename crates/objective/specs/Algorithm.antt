@@ -2,7 +2,7 @@
 use Prim.Native.Nat.{ℕ, zero, suc}
 use Rattle.std.specs.Prelude.{Bool, cond, List, [], ◌∷◌, ◌++◌, length, set, Float}
 use Rattle.float.specs.Binary64.{◌⊕◌, ◌⊖◌, ◌⊗◌, ◌⊘◌, bits}
-use Rattle.float.specs.Values.{absOf, max_of}
+use Rattle.float.specs.Values.{absOf, maxOf}
 use Rattle.float.specs.Roots.{differenceFactor}
 use Rattle.vector.specs.Loops.{at}
 use Rattle.vector.specs.Lists.{first}
@@ -11,7 +11,7 @@ use Rattle.protocol.specs.Ask.{Ask, finish, query, askValue, ◌>>=◌}
 
 -- h = base * x[i].abs().max(1.0), with a coordinate's typical size in the place of the 1
 unfoldable pub differenceStep : Float → Float → Float
-differenceStep x size = differenceFactor ⊗ max_of (absOf x) size
+differenceStep x size = differenceFactor ⊗ maxOf (absOf x) size
 
 -- xp = x[i] + h and xm = x[i] - h, with the size 1.0
 unfoldable pub forwardOf : Float → Float

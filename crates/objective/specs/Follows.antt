@@ -39,7 +39,7 @@ module _ (read : Float → Float) where
     pub follows : (n : ℕ) (s : Differences) → DifferencesSized n s → s.at < n → toDo n s ≡ query Value (first n (probeOf s)) (λ w. toDo n (toldOf s (read (get_or w 0 nan))))
     pub ends : (n : ℕ) (s : Differences) → s.at ≡ n → toDo n s ≡ finish (first n s.g)
     -- it lasts
-    pub begun_sized : (n : ℕ) (x : List Float) → n ≤ 16 → length x ≡ 16 → DifferencesSized n (begunOf x)
+    pub begun-sized : (n : ℕ) (x : List Float) → n ≤ 16 → length x ≡ 16 → DifferencesSized n (begunOf x)
     pub told-sized : (n : ℕ) (s : Differences) (v : Float) → DifferencesSized n s → s.at < n → DifferencesSized n (toldOf s v)
     pub begun-zeros : (n : ℕ) (x : List Float) → ((k : ℕ) → n ≤ k → k < 16 → at x k ≡ plusZero) → DifferencesZeroPast n (begunOf x)
     pub told-zeros : (n : ℕ) (s : Differences) (v : Float) → s.at < n → DifferencesZeroPast n s → DifferencesZeroPast n (toldOf s v)

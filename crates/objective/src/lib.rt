@@ -1,6 +1,6 @@
 // The reading of values, and central differences one answer at a time.
 ghost use Rattle.std.specs.Prelude.{◌≡◌, ◌<◌};
-ghost use Rattle.protocol.specs.Protocol.{read_of};
+ghost use Rattle.protocol.specs.Protocol.{readOf};
 ghost use Rattle.objective.specs.Algorithm.{differenceStep, forwardOf, backwardOf};
 ghost use Rattle.objective.specs.Step.{begunOf, probeOf, toldOf};
 
@@ -18,7 +18,7 @@ pub struct Differences {
 
 // How every value told passes into a fit: one that is not finite is read as +infinity.
 pub fn read(v: f64) -> f64
-    ensures { result ≡ read_of v }
+    ensures { result ≡ readOf v }
 {
     if float::is_finite(v) {
         return v;

@@ -19,12 +19,12 @@ use Rattle.neldermead.specs.declared.Simplex.{Simplex}
 use Rattle.protocol.specs.Protocol.{Reply}
 use Rattle.optim_record.specs.declared.Counts.{Counts}
 use Rattle.optim_record.specs.declared.Record.{Record}
-use Rattle.optim_record.specs.Record.{simplexMark, searchMark, gradientFixedOf, gradientJobOf, valid_of, Ranges, Open, Stands}
+use Rattle.optim_record.specs.Record.{simplexMark, searchMark, gradientFixedOf, gradientJobOf, validOf, Ranges, Open, Stands}
 use Rattle.optim_reply.specs.Standing.{refusedOf, overOf, gradientDueOf, standingOf}
 use Rattle.optim_rules.specs.Rules.{repeatsOf, suitsOf, meetsOf, acceptsOf}
 use Rattle.optim_rules.specs.Moves.{countedOf, simplexToldOf, searchToldOf, descentToldOf, Worded}
-use Rattle.optim_rules.proofs.Ranges.{ranges, open_of, stands, one_word, n-words}
-use Rattle.optim.specs.Answer.{steppedOf, gradedOf, taken_of, takenGradientOf, heardOf, answer_of}
+use Rattle.optim_rules.proofs.Ranges.{ranges, open-of, stands, one-word, n-words}
+use Rattle.optim.specs.Answer.{steppedOf, gradedOf, takenOf, takenGradientOf, heardOf, answerOf}
 use Rattle.optim.specs.Parts.{repliedOf}
 use Rattle.optim.proofs.Asking.{asking-model, asking-rests}
 use Rattle.optim.proofs.Ranges.{stepped-stands, graded-stands}
@@ -187,18 +187,18 @@ module _ (r : Record) (number kind : ℕ) (words : List Float) where
 
   -- what an accepted answer has passed
   pub passes : acceptsOf r number why ≡ true
-      → (valid_of r ≡ true) × (repeatsOf r.accepted number ≡ false) × (overOf r ≡ false) × (eqb number (r.accepted + 1) ≡ true) × (suitsOf r kind (length words) ≡ true)
+      → (validOf r ≡ true) × (repeatsOf r.accepted number ≡ false) × (overOf r ≡ false) × (eqb number (r.accepted + 1) ≡ true) × (suitsOf r kind (length words) ≡ true)
   unfolding acceptsOf meetsOf
-  passes e = means (valid_of r) (repeatsOf r.accepted number) (overOf r) (eqb number (r.accepted + 1)) (suitsOf r kind (length words)) e
+  passes e = means (validOf r) (repeatsOf r.accepted number) (overOf r) (eqb number (r.accepted + 1)) (suitsOf r kind (length words)) e
 
   pub accepted-ranges : acceptsOf r number why ≡ true → Ranges r
   accepted-ranges e = ranges r (passes e).0
 
   pub accepted-open : acceptsOf r number why ≡ true → Open r
-  accepted-open e = open_of r (accepted-ranges e) (passes e).2
+  accepted-open e = open-of r (accepted-ranges e) (passes e).2
 
   pub accepted-worded : acceptsOf r number why ≡ true → Worded r words
-  accepted-worded e = (λ d. n-words r kind words d (passes e).4, λ d. one_word r kind words d (passes e).4)
+  accepted-worded e = (λ d. n-words r kind words d (passes e).4, λ d. one-word r kind words d (passes e).4)
 
   -- the record that is kept: it moves where the answer is accepted
   abbrev pub keptOf : Record
@@ -211,9 +211,9 @@ module _ (r : Record) (number kind : ℕ) (words : List Float) where
   kept-left e = rw e
 
   -- no refusal but 1 is met by a record out of range
-  none-valid : why ≡ 0 → valid_of r ≡ true
+  none-valid : why ≡ 0 → validOf r ≡ true
   unfolding meetsOf
-  none-valid z = zero-valid (valid_of r) (repeatsOf r.accepted number) (overOf r) (eqb number (r.accepted + 1)) (suitsOf r kind (length words)) z
+  none-valid z = zero-valid (validOf r) (repeatsOf r.accepted number) (overOf r) (eqb number (r.accepted + 1)) (suitsOf r kind (length words)) z
 
   pub kept-stands : why ≡ 0 → Stands keptOf
   kept-stands z = go (acceptsOf r number why) refl
@@ -223,21 +223,21 @@ module _ (r : Record) (number kind : ℕ) (words : List Float) where
       go false e = stands r (ranges r (none-valid z))
 
   abbrev goes : Reply × Record
-  goes = cond (gradientDueOf r) (takenGradientOf r (fromSliceOf words r.n)) (taken_of r (get_or words 0 nan))
+  goes = cond (gradientDueOf r) (takenGradientOf r (fromSliceOf words r.n)) (takenOf r (get_or words 0 nan))
 
-  goes_on : standingOf (advancedOf r words) ≡ goes
-  unfolding taken_of takenGradientOf
-  goes_on = go (gradientDueOf r)
+  goes-on : standingOf (advancedOf r words) ≡ goes
+  unfolding takenOf takenGradientOf
+  goes-on = go (gradientDueOf r)
     where
       go : (b : Bool) → standingOf (cond b (gradedOf r (fromSliceOf words r.n)) (steppedOf r (get_or words 0 nan)))
-          ≡ cond b (takenGradientOf r (fromSliceOf words r.n)) (taken_of r (get_or words 0 nan))
+          ≡ cond b (takenGradientOf r (fromSliceOf words r.n)) (takenOf r (get_or words 0 nan))
       go true = refl
       go false = refl
 
   -- the reply is what the answer's definition says
-  pub replies : repliedOf keptOf why ≡ answer_of r number kind words
-  unfolding acceptsOf meetsOf repliedOf answer_of heardOf
-  replies = go (valid_of r) (repeatsOf r.accepted number) (overOf r) (eqb number (r.accepted + 1)) (suitsOf r kind (length words))
+  pub replies : repliedOf keptOf why ≡ answerOf r number kind words
+  unfolding acceptsOf meetsOf repliedOf answerOf heardOf
+  replies = go (validOf r) (repeatsOf r.accepted number) (overOf r) (eqb number (r.accepted + 1)) (suitsOf r kind (length words))
     where
       said : ℕ → Record → Reply × Record
       said w q = cond (not (eqb w 0)) (refusedOf q w 0) (standingOf q)
@@ -249,4 +249,4 @@ module _ (r : Record) (number kind : ℕ) (words : List Float) where
       go true false true n s = refl
       go true false false false s = refl
       go true false false true false = refl
-      go true false false true true = goes_on
+      go true false false true true = goes-on

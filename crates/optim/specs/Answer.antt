@@ -2,7 +2,7 @@
 use Rattle.std.specs.Prelude.{ℕ, ◌+◌, cond, not, List, eqb, length, get_or, Float}
 use Rattle.std.specs.Float.{nan}
 use Rattle.vector.specs.Points.{fromSliceOf}
-use Rattle.protocol.specs.Protocol.{Reply, read_of}
+use Rattle.protocol.specs.Protocol.{Reply, readOf}
 use Rattle.objective.specs.declared.Differences.{Differences}
 use Rattle.objective.specs.Step.{toldOf}
 use Rattle.linesearch.specs.Step as linesearch
@@ -12,7 +12,7 @@ use Rattle.quasinewton.specs.Step as quasinewton
 use Rattle.neldermead.specs.declared.Simplex.{Simplex}
 use Rattle.neldermead.specs.Step.{toldOf as simplexTold}
 use Rattle.optim_record.specs.declared.Record.{Record}
-use Rattle.optim_record.specs.Record.{simplexMark, searchMark, fixed_of, searchFixedOf, gradientFixedOf, gradientJobOf, valid_of}
+use Rattle.optim_record.specs.Record.{simplexMark, searchMark, fixedOf, searchFixedOf, gradientFixedOf, gradientJobOf, validOf}
 use Rattle.optim_reply.specs.Standing.{refusedOf, overOf, gradientDueOf, standingOf}
 use Rattle.optim_rules.specs.Rules.{repeatsOf, suitsOf}
 
@@ -38,9 +38,9 @@ valuedOf r d q s m =
 unfoldable pub steppedOf : Record → Float → Record
 steppedOf r v =
     let d = r.descent in
-    let q = quasinewton.settled_of (gradientFixedOf r) (quasinewton.toldOf (gradientFixedOf r) d (read_of v)) r.model (r.counts.fevals + 1) in
-    cond (eqb r.job simplexMark) (valuedOf r r.diff (simplexTold (fixed_of r) r.simplex (read_of v) (r.counts.fevals + 1)) d r.model)
-    (cond (eqb r.job searchMark) (valuedOf r r.diff r.simplex (quasinewton.withSearch d (linesearch.toldOf (searchFixedOf r) d.line d.search (read_of v) v)) r.model)
+    let q = quasinewton.settledOf (gradientFixedOf r) (quasinewton.toldOf (gradientFixedOf r) d (readOf v)) r.model (r.counts.fevals + 1) in
+    cond (eqb r.job simplexMark) (valuedOf r r.diff (simplexTold (fixedOf r) r.simplex (readOf v) (r.counts.fevals + 1)) d r.model)
+    (cond (eqb r.job searchMark) (valuedOf r r.diff r.simplex (quasinewton.withSearch d (linesearch.toldOf (searchFixedOf r) d.line d.search (readOf v) v)) r.model)
     (cond (gradientJobOf r.job) (valuedOf r r.diff r.simplex q.descent q.model)
     (valuedOf r (toldOf r.diff v) r.simplex d r.model)))
 
@@ -65,13 +65,13 @@ slopedOf r d m =
 unfoldable pub gradedOf : Record → List Float → Record
 gradedOf r g =
     let d = r.descent in
-    let q = quasinewton.settled_of (gradientFixedOf r) (quasinewton.toldGradientOf (gradientFixedOf r) d g) r.model r.counts.fevals in
+    let q = quasinewton.settledOf (gradientFixedOf r) (quasinewton.toldGradientOf (gradientFixedOf r) d g) r.model r.counts.fevals in
     cond (eqb r.job searchMark) (slopedOf r (quasinewton.withSearch d (linesearch.toldGradientOf (searchFixedOf r) d.line d.search g)) r.model)
     (slopedOf r q.descent q.model)
 
 -- the reply to that value, and to that gradient
-unfoldable pub taken_of : Record → Float → Reply × Record
-taken_of r v = standingOf (steppedOf r v)
+unfoldable pub takenOf : Record → Float → Reply × Record
+takenOf r v = standingOf (steppedOf r v)
 
 unfoldable pub takenGradientOf : Record → List Float → Reply × Record
 takenGradientOf r g = standingOf (gradedOf r g)
@@ -83,8 +83,8 @@ heardOf r number kind words =
     (cond (overOf r) (refusedOf r 15 0)
     (cond (not (eqb number (r.accepted + 1))) (refusedOf r 16 0)
     (cond (not (suitsOf r kind (length words))) (refusedOf r 17 0)
-    (cond (gradientDueOf r) (takenGradientOf r (fromSliceOf words r.n)) (taken_of r (get_or words 0 nan))))))
+    (cond (gradientDueOf r) (takenGradientOf r (fromSliceOf words r.n)) (takenOf r (get_or words 0 nan))))))
 
 -- 01: "an answer 1, then the repeat rule, then 15 to 17"
-unfoldable pub answer_of : Record → ℕ → ℕ → List Float → Reply × Record
-answer_of r number kind words = cond (valid_of r) (heardOf r number kind words) (refusedOf r 1 0)
+unfoldable pub answerOf : Record → ℕ → ℕ → List Float → Reply × Record
+answerOf r number kind words = cond (validOf r) (heardOf r number kind words) (refusedOf r 1 0)

@@ -18,8 +18,8 @@ use Rattle.linesearch_trials.specs.Trials.{one}
 use Rattle.linesearch.specs.Step as linesearch
 use Rattle.quasinewton_model.specs.Step.{blankOf as blankModel, newModelOf}
 use Rattle.quasinewton_record.specs.declared.Descent.{Descent}
-use Rattle.quasinewton.specs.Step.{searching, idleOf as idleDescent, start_of as quasinewtonStart}
-use Rattle.neldermead.specs.Step.{start_of}
+use Rattle.quasinewton.specs.Step.{searching, idleOf as idleDescent, startOf as quasinewtonStart}
+use Rattle.neldermead.specs.Step.{startOf}
 use Rattle.optim_record.specs.declared.Limits.{Limits}
 use Rattle.optim_record.specs.declared.Record.{Record}
 use Rattle.optim_record.specs.Record.{idleOf, noOptions, wolfeOptionsOf, noGradientOptions, simplexMark, bfgsMark, lbfgsMark, searchMark, differencesMark, mostAllowed, mostRestarts, mostEvals, noLimit}
@@ -84,7 +84,7 @@ simplexRecordOf point n o a =
       options = o;
       gradient = noGradientOptions;
       diff = begunOf (replicate 16 plusZero);
-      simplex = start_of point;
+      simplex = startOf point;
       descent = idleDescent;
       model = blankModel;
     }

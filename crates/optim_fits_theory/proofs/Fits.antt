@@ -23,11 +23,11 @@ use Rattle.optim_fits_theory.specs.Fits.{allFits, reference, NeverMet, FitsClaim
 use Rattle.optim_fits_theory.proofs.RefusalsLists.{refused-by}
 use Rattle.optim_fits_theory.proofs.Refusals.{fails-laws}
 
-pub all_laws : RoundsLaws allFits IsSimplex
-all_laws = fits-laws nelderMead quasiNewton simplex-laws gradient-laws
+pub all-laws : RoundsLaws allFits IsSimplex
+all-laws = fits-laws nelderMead quasiNewton simplex-laws gradient-laws
 
 pub mission : Claim reference
-mission = claim-of-rounds allFits all_laws
+mission = claim-of-rounds allFits all-laws
 
 refusals : RefusedBy allFits EndedBy
 refusals = refused-by allFits EndedBy fails-laws

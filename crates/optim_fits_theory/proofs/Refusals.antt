@@ -7,7 +7,7 @@ use mathlib.Core.List.{List, []}
 use lib.Ieee.{Float}
 use Rattle.protocol.specs.declared.GradientOptions.{GradientOptions}
 use Rattle.protocol.specs.declared.SimplexOptions.{SimplexOptions}
-use Rattle.protocol.specs.Protocol.{read_of, Job, simplex, bfgs, lbfgs}
+use Rattle.protocol.specs.Protocol.{readOf, Job, simplex, bfgs, lbfgs}
 use Rattle.protocol.specs.Dialogue.{Exchange}
 use Rattle.protocol.specs.Ask.{Ask, finish, query, askValue, ◌>>=◌, wp}
 use Rattle.protocol.specs.Rounds.{Ending, atHead, stops, fails, Verdict, goOn, stop, restart}
@@ -50,8 +50,8 @@ module _ {C : Type 0} (f : C → Position) (j : Job) (Q : List Exchange → Endi
   begins-by (finish (stops y p)) h = tt
   begins-by (finish (fails k d)) h = tt
 
-  turn_by : (es : List Exchange) (m : Ask (Ending C)) → Begins m × wp es m Q → Begins (mapText f m) × wp es (mapText f m) (By j)
-  turn_by es m h = (begins-by m h.0, text-by es m h.1)
+  turn-by : (es : List Exchange) (m : Ask (Ending C)) → Begins m × wp es m Q → Begins (mapText f m) × wp es (mapText f m) (By j)
+  turn-by es m h = (begins-by m h.0, text-by es m h.1)
 
   -- an opening that is refused, or asks
   abbrev Asks : Ask (Ending C) → Type 0
@@ -60,14 +60,14 @@ module _ {C : Type 0} (f : C → Position) (j : Job) (Q : List Exchange → Endi
   Asks (finish (stops y p)) = ⊥
   Asks (finish (fails k d)) = Unit {0}
 
-  opens_by : (m : Ask (Ending C)) → Asks m → OpensBy allFits EndedBy Head j (mapText f m)
+  opens-by : (m : Ask (Ending C)) → Asks m → OpensBy allFits EndedBy Head j (mapText f m)
   unfolding ◌>>=◌
-  opens_by (query k x c) h = text-by [] (query k x c) h
-  opens_by (finish (atHead p)) h = h
-  opens_by (finish (stops y p)) h = h
-  opens_by (finish (fails k d)) h = tt
+  opens-by (query k x c) h = text-by [] (query k x c) h
+  opens-by (finish (atHead p)) h = h
+  opens-by (finish (stops y p)) h = h
+  opens-by (finish (fails k d)) h = tt
 
-  asks-first : (x : List Float) (g : Float → Ask (Ending C)) → wp [] (askValue read_of x >>= g) Q → Asks (askValue read_of x >>= g)
+  asks-first : (x : List Float) (g : Float → Ask (Ending C)) → wp [] (askValue readOf x >>= g) Q → Asks (askValue readOf x >>= g)
   unfolding ◌>>=◌
   asks-first x g h = h
 
@@ -75,7 +75,7 @@ module _ {C : Type 0} (f : C → Position) (j : Job) (Q : List Exchange → Endi
       → Begins m × wp es m (By j)
   restart-by es goOn m e h = absurd (go-on≢restart e)
   restart-by es (stop y) m e h = absurd (stop≢restart e)
-  restart-by es (restart n) m e h = subst (λ (z : Ask (Ending Position)). Begins z × wp es z (By j)) (restart-inj e) (turn_by es n (h n refl))
+  restart-by es (restart n) m e h = subst (λ (z : Ask (Ending Position)). Begins z × wp es z (By j)) (restart-inj e) (turn-by es n (h n refl))
 
 -- ---- the simplex
 
@@ -91,7 +91,7 @@ module _ (o : SimplexOptions) where
 
   simplex-opens : (x : List Float) → OpensBy allFits EndedBy Head (simplex o) (openingOf nelderMead quasiNewton (simplex o) x)
   simplex-opens x =
-      opens_by inl (simplex o) By20 ends-to (nelderMead.opening o x) (opening-fails (Asks inl (simplex o) By20 ends-to) o x (λ k d. tt) (asks-build (nowhere o x) x))
+      opens-by inl (simplex o) By20 ends-to (nelderMead.opening o x) (opening-fails (Asks inl (simplex o) By20 ends-to) o x (λ k d. tt) (asks-build (nowhere o x) x))
 
 -- ---- the gradient fits
 
@@ -110,12 +110,12 @@ module _ (limits : Bool) (o : GradientOptions) (j : Job) (head : (es : List Exch
 
   gradient-opens : (x : List Float) → OpensBy allFits EndedBy Head j (mapText inr (opening limits o x))
   gradient-opens x =
-      opens_by inr j OpeningEnds opening-to (opening limits o x)
+      opens-by inr j OpeningEnds opening-to (opening limits o x)
       (opening-case (Asks inr j OpeningEnds opening-to) limits o x (λ k d. tt) (λ a. asks-first inr j OpeningEnds opening-to x (withValue limits o x) (heads.opening-ends limits o x a)))
 
   gradient-round : (es : List Exchange) (p : quasiNewton.Position) → GradientAtHead es p
       → let m = roundOf nelderMead quasiNewton (inr p) in Begins m × wp es m (By j)
-  gradient-round es p a = turn_by inr j (RoundEnds p) (round-to p) es (quasiNewton.round p) (heads.round-begins es p a, heads.round-ends es p a)
+  gradient-round es p a = turn-by inr j (RoundEnds p) (round-to p) es (quasiNewton.round p) (heads.round-begins es p a, heads.round-ends es p a)
 
   gradient-restart : (es : List Exchange) (p : quasiNewton.Position) (m : Ask (Ending Position)) → testsOf nelderMead quasiNewton (inr p) ≡ restart m → Begins m × wp es m (By j)
   gradient-restart es p m e = restart-by inr j (RoundEnds p) (round-to p) es (quasiNewton.tests p) m e (λ n i. absurd (no-restart p n i))
@@ -136,7 +136,7 @@ restart-law (lbfgs o) es (inl p) m a e = absurd a
 restart-law (lbfgs o) es (inr p) m a e = gradient-restart true o (lbfgs o) (λ es p a. a) (λ k d h. h) es p m e
 
 round-law : (j : Job) (es : List Exchange) (p : Position) → Head j es p → let m = roundOf nelderMead quasiNewton p in Begins m × wp es m (By j)
-round-law (simplex o) es (inl p) a = turn_by inl (simplex o) By20 (ends-to o) es (nelderMead.round p) (round-fails es p)
+round-law (simplex o) es (inl p) a = turn-by inl (simplex o) By20 (ends-to o) es (nelderMead.round p) (round-fails es p)
 round-law (simplex o) es (inr p) a = absurd a
 round-law (bfgs o) es (inl p) a = absurd a
 round-law (bfgs o) es (inr p) a = gradient-round false o (bfgs o) (λ es p a. a) (λ k d h. h) es p a
@@ -144,4 +144,4 @@ round-law (lbfgs o) es (inl p) a = absurd a
 round-law (lbfgs o) es (inr p) a = gradient-round true o (lbfgs o) (λ es p a. a) (λ k d h. h) es p a
 
 pub fails-laws : FailsLaws allFits EndedBy
-fails-laws = record { Head = Head; opening-by = opening-law; restart-by = restart-law; round_by = round-law }
+fails-laws = record { Head = Head; opening-by = opening-law; restart-by = restart-law; round-by = round-law }

@@ -11,7 +11,7 @@ use Rattle.protocol.specs.Protocol.{Answer, Reply, ask, ended, refused, Job, Fit
 use Rattle.protocol.specs.Dialogue.{accepted, F64s, GivenF64s, ofKind, Exchange, Dialogue, NotRefused, Started, called, give, giveAll, begin, run}
 use Rattle.protocol.specs.Calls.{turnedAway}
 use Rattle.protocol.specs.Ask.{Ask, finish, query, wp, heardAt}
-use Rattle.protocol.specs.Rounds.{Ending, atHead, stops, fails, Verdict, goOn, stop, restart, Rounds, reached, limitsOf, State, open_at, over, Kept, questionAt, kept, settle, headed, allowed, put, standing, isRepeat, answerTo, begun, engine}
+use Rattle.protocol.specs.Rounds.{Ending, atHead, stops, fails, Verdict, goOn, stop, restart, Rounds, reached, limitsOf, State, openAt, over, Kept, questionAt, kept, settle, headed, allowed, put, standing, isRepeat, answerTo, begun, engine}
 use Rattle.protocol.specs.RoundsLaws.{Begins}
 use Rattle.protocol.specs.PastLimits.{pastLimits}
 use Rattle.protocol.proofs.Replies.{suits-length}
@@ -51,7 +51,7 @@ module _ (R : Rounds Job) (P : Job → ℕ → ℕ → Type 0) (L : FailsLaws R 
       allow : (a b : Bool) → Placed (allowed R a b p)
       allow true b = tt
       allow false true = tt
-      allow false false = placed es (R.round p) (L.round_by f.job es p h)
+      allow false false = placed es (R.round p) (L.round-by f.job es p h)
 
       go : (o : Verdict R.Position) → R.tests p ≡ o → Placed (headed R (limitsOf f) v o p)
       go goOn e = allow (reached (R.iterations p) (limitsOf f).iter) (reached v (limitsOf f).fevals)
@@ -61,7 +61,7 @@ module _ (R : Rounds Job) (P : Job → ℕ → ℕ → Type 0) (L : FailsLaws R 
   -- ---- the record along a list
 
   abbrev StateOk : State R.Position → Type 0
-  StateOk (open_at k x c) = (es : List Exchange) × wp es (query k x c) By
+  StateOk (openAt k x c) = (es : List Exchange) × wp es (query k x c) By
   StateOk (over (ask q)) = ⊥
   StateOk (over (ended o)) = Unit {0}
   StateOk (over (refused k d)) = Fine (refused k d)
@@ -71,27 +71,27 @@ module _ (R : Rounds Job) (P : Job → ℕ → ℕ → Type 0) (L : FailsLaws R 
     pub v : ℕ
     pub g : ℕ
     pub state : State R.Position
-    pub record_is : kept R (limitsOf f) n v g state ≡ r
+    pub record-is : kept R (limitsOf f) n v g state ≡ r
     pub standing-is : standing R n state ≡ y
     pub state-ok : StateOk state
 
   closed : (s : State R.Position) → StateOk s → Closed R s
-  closed (open_at k x c) h = tt
+  closed (openAt k x c) h = tt
   closed (over (ask q)) h = h
   closed (over (ended o)) h = tt
   closed (over (refused k d)) h = tt
 
   standing-fine : (n : ℕ) (s : State R.Position) → StateOk s → Fine (standing R n s)
-  standing-fine n (open_at k x c) h = tt
+  standing-fine n (openAt k x c) h = tt
   standing-fine n (over (ask q)) h = absurd h
   standing-fine n (over (ended o)) h = tt
   standing-fine n (over (refused k d)) h = h
 
   put-good : (n v g : ℕ) (m : Text) → Placed m → let z = put R (limitsOf f) n v g m in Good z.0 z.1
-  put-good n v g (query k x c) h = record { n = n; v = v; g = g; state = open_at k x c; record_is = refl; standing-is = refl; state-ok = h }
+  put-good n v g (query k x c) h = record { n = n; v = v; g = g; state = openAt k x c; record-is = refl; standing-is = refl; state-ok = h }
   put-good n v g (finish (atHead p)) h = absurd h
-  put-good n v g (finish (stops y p)) h = record { n = n; v = v; g = g; state = _; record_is = refl; standing-is = refl; state-ok = tt }
-  put-good n v g (finish (fails k d)) h = record { n = n; v = v; g = g; state = over (refused k d); record_is = refl; standing-is = refl; state-ok = inl h }
+  put-good n v g (finish (stops y p)) h = record { n = n; v = v; g = g; state = _; record-is = refl; standing-is = refl; state-ok = tt }
+  put-good n v g (finish (fails k d)) h = record { n = n; v = v; g = g; state = over (refused k d); record-is = refl; standing-is = refl; state-ok = inl h }
 
   -- ---- one answer
 
@@ -121,7 +121,7 @@ module _ (R : Rounds Job) (P : Job → ℕ → ℕ → Type 0) (L : FailsLaws R 
       r = kept R (limitsOf f) n v g s
 
       heard : (s : State R.Position) → StateOk s → accepted (standing R n s) a ≡ true → let z = answerTo R (kept R (limitsOf f) n v g s) a in Good z.0 z.1
-      heard (open_at j x c) k e =
+      heard (openAt j x c) k e =
           subst (λ (z : Reply × Kept R.Position). Good z.0 z.1) (sym (taken R (limitsOf f) n v g j x c a e))
           (put-good (suc n) (v + ofKind Value j) (g + ofKind Gradient j) (settle R (limitsOf f) (v + ofKind Value j) (c a.words))
           (settled (k.0 ++ (heardAt 0 j x a.words ∷ [])) (v + ofKind Value j) (c a.words) (k.1 0 a.words (suits-length (questionAt R n j x) a e) w)))
@@ -134,7 +134,7 @@ module _ (R : Rounds Job) (P : Job → ℕ → ℕ → Type 0) (L : FailsLaws R 
       go false e =
           subst (λ (z : Reply × Kept R.Position). Fine z.0 × Good (standing R n s) z.1) (sym (unmoved R r a (closed s h) e)) (
             either-fine (isRepeat R r a) (standing R n s) (turnedAway (standing R n s) a) (standing-fine n s h) (turned-fine (standing R n s) a),
-            record { n = n; v = v; g = g; state = s; record_is = refl; standing-is = refl; state-ok = h },
+            record { n = n; v = v; g = g; state = s; record-is = refl; standing-is = refl; state-ok = h },
           )
 
   good-fine : (y : Reply) (r : Kept R.Position) → Good y r → Fine y
@@ -142,15 +142,15 @@ module _ (R : Rounds Job) (P : Job → ℕ → ℕ → Type 0) (L : FailsLaws R 
 
   good-after : (y : Reply) (r : Kept R.Position) (a : Answer) → Good y r → F64s a.words → After y a (accepted y a) (answerTo R r a)
   good-after y r a h w =
-      subst₂ (λ (y : Reply) (r : Kept R.Position). After y a (accepted y a) (answerTo R r a)) h.standing-is h.record_is (state-after h.n h.v h.g h.state a h.state-ok w)
+      subst₂ (λ (y : Reply) (r : Kept R.Position). After y a (accepted y a) (answerTo R r a)) h.standing-is h.record-is (state-after h.n h.v h.g h.state a h.state-ok w)
 
   -- ---- a list
 
   abbrev AllFine : List Reply → Type 0
   AllFine ys = (y : Reply) → Memᴰ y ys → Fine y
 
-  one_more : (ys : List Reply) (z : Reply) → AllFine ys → Fine z → AllFine (ys ++ (z ∷ []))
-  one_more ys z h k y m = ⊎_elim (h y) (λ i. ⊎_elim (λ e. subst Fine (sym e) k) (λ j. absurd (Memᴰ.not-nil j)) (Memᴰ.cases_cons i)) (Memᴰ.append_cases ys m)
+  one-more : (ys : List Reply) (z : Reply) → AllFine ys → Fine z → AllFine (ys ++ (z ∷ []))
+  one-more ys z h k y m = ⊎_elim (h y) (λ i. ⊎_elim (λ e. subst Fine (sym e) k) (λ j. absurd (Memᴰ.not-nil j)) (Memᴰ.cases_cons i)) (Memᴰ.append_cases ys m)
 
   abbrev Along : Dialogue (Kept R.Position) → Type 0
   Along d = Good d.standing d.recordNow × AllFine d.replies
@@ -159,8 +159,8 @@ module _ (R : Rounds Job) (P : Job → ℕ → ℕ → Type 0) (L : FailsLaws R 
   give-along d a w h = go (accepted d.standing a) (answerTo R d.recordNow a) (good-after d.standing d.recordNow a h.0 w)
     where
       go : (b : Bool) (z : Reply × Kept R.Position) → After d.standing a b z → Along (called (engine R) d a b z)
-      go true z k = (k, one_more d.replies z.0 h.1 (good-fine z.0 z.1 k))
-      go false z k = (k.1, one_more d.replies z.0 h.1 k.0)
+      go true z k = (k, one-more d.replies z.0 h.1 (good-fine z.0 z.1 k))
+      go false z k = (k.1, one-more d.replies z.0 h.1 k.0)
 
   all-along : (d : Dialogue (Kept R.Position)) (l : List Answer) → GivenF64s l → Along d → Along (giveAll (engine R) d l)
   all-along d [] w h = h
@@ -183,11 +183,11 @@ module _ (R : Rounds Job) (P : Job → ℕ → ℕ → Type 0) (L : FailsLaws R 
       which true s = absurd s
       which false s = go open-text (L.opening-by f.job f.x0) s
 
-  run_along : (l : List Answer) → Started (engine R) f → GivenF64s l → Along (run (engine R) f l)
-  run_along l s w =
+  run-along : (l : List Answer) → Started (engine R) f → GivenF64s l → Along (run (engine R) f l)
+  run-along l s w =
       let z = put R (limitsOf f) 0 0 0 (begun R f) in
       let g : Good z.0 z.1 = put-good 0 0 0 (begun R f) (begun-placed s) in
-      all-along (begin (engine R) f) l w (g, one_more [] z.0 (λ y m. absurd (Memᴰ.not-nil m)) (good-fine z.0 z.1 g))
+      all-along (begin (engine R) f) l w (g, one-more [] z.0 (λ y m. absurd (Memᴰ.not-nil m)) (good-fine z.0 z.1 g))
 
 pub refused-by : (R : Rounds Job) (P : Job → ℕ → ℕ → Type 0) → FailsLaws R P → RefusedBy R P
-refused-by R P L f l s w y m = (run_along R P L f l s w).1 y m
+refused-by R P L f l s w y m = (run-along R P L f l s w).1 y m

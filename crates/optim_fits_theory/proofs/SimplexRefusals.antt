@@ -26,8 +26,8 @@ always : {A : Type 0} (es : List Exchange) (m : Ask A) (Q : List Exchange → A 
 always es (finish a) Q h = h es a
 always es (query k x c) Q h = λ n w l i. always (es ++ (heardAt n k x w ∷ [])) (c w) Q h
 
-and_then : {A : Type 0} (es : List Exchange) (m : Ask A) (f : A → Ask (Ending SimplexPosition)) → ((fs : List Exchange) (a : A) → wp fs (f a) By20) → wp es (m >>= f) By20
-and_then es m f h = wp-bind es m f By20 (always es m (λ fs a. wp fs (f a) By20) h)
+andThen : {A : Type 0} (es : List Exchange) (m : Ask A) (f : A → Ask (Ending SimplexPosition)) → ((fs : List Exchange) (a : A) → wp fs (f a) By20) → wp es (m >>= f) By20
+andThen es m f h = wp-bind es m f By20 (always es m (λ fs a. wp fs (f a) By20) h)
 
 either : (es : List Exchange) (b : Bool) (m n : Ask (Ending SimplexPosition)) → wp es m By20 → wp es n By20 → wp es (cond b m n) By20
 either es true m n h k = h
@@ -35,18 +35,18 @@ either es false m n h k = k
 
 module _ (p : SimplexPosition) where
   shrinks : (es : List Exchange) → wp es (shrink p) By20
-  shrinks es = and_then es _ (λ us. finish (atHead (arrive p (vertex p 0 ∷ us)))) (λ fs us. tt)
+  shrinks es = andThen es _ (λ us. finish (atHead (arrive p (vertex p 0 ∷ us)))) (λ fs us. tt)
 
   reflects : (es : List Exchange) (r : Vertex) → wp es (reflected p r) By20
   reflects es r =
-      either es (lt r.f (vertex p 0).f) _ _ (and_then es _ (λ e. finish (replaced p (cond (lt e.f r.f) e r))) (λ fs e. tt))
+      either es (lt r.f (vertex p 0).f) _ _ (andThen es _ (λ e. finish (replaced p (cond (lt e.f r.f) e r))) (λ fs e. tt))
       (either es (lt r.f (vertex p (p.n - 1)).f) _ _ tt
       (either es (lt r.f (vertex p p.n).f) _ _
-      (and_then es _ (λ c. cond (le c.f r.f) (finish (replaced p c)) (shrink p)) (λ fs c. either fs (le c.f r.f) _ _ tt (shrinks fs)))
-      (and_then es _ (λ c. cond (lt c.f (vertex p p.n).f) (finish (replaced p c)) (shrink p)) (λ fs c. either fs (lt c.f (vertex p p.n).f) _ _ tt (shrinks fs)))))
+      (andThen es _ (λ c. cond (le c.f r.f) (finish (replaced p c)) (shrink p)) (λ fs c. either fs (le c.f r.f) _ _ tt (shrinks fs)))
+      (andThen es _ (λ c. cond (lt c.f (vertex p p.n).f) (finish (replaced p c)) (shrink p)) (λ fs c. either fs (lt c.f (vertex p p.n).f) _ _ tt (shrinks fs)))))
 
   builds : (es : List Exchange) (x : List Float) → wp es (build p x) By20
-  builds es x = and_then es _ (built p) (λ fs us. go fs us (anyFinite us))
+  builds es x = andThen es _ (built p) (λ fs us. go fs us (anyFinite us))
     where
       go : (fs : List Exchange) (us : List Vertex) (b : Bool) → By20 fs (cond b (atHead (arrive p us)) (fails 20 0))
       go fs us true = tt
@@ -58,7 +58,7 @@ module _ (p : SimplexPosition) where
 
 pub round-fails : (es : List Exchange) (p : SimplexPosition) → Begins (round p) × wp es (round p) By20
 unfolding ◌>>=◌
-round-fails es p = (tt, and_then es (askVertex _) (reflected (iterated p)) (λ fs r. reflects (iterated p) fs r))
+round-fails es p = (tt, andThen es (askVertex _) (reflected (iterated p)) (λ fs r. reflects (iterated p) fs r))
 
 pub restart-fails : (es : List Exchange) (p : SimplexPosition) (m : Ask (Ending SimplexPosition)) → tests p ≡ restart m → Begins m × wp es m By20
 restart-fails es p m =

@@ -39,7 +39,7 @@ module _ (R : Rounds Job) (P : Job → ℕ → ℕ → Type 0) where
     pub Head : Job → List Exchange → R.Position → Type 0
     pub opening-by : (j : Job) (x : List Float) → OpensBy Head j (R.opening j x)
     pub restart-by : (j : Job) (es : List Exchange) (p : R.Position) (m : Ask (Ending R.Position)) → Head j es p → R.tests p ≡ restart m → Begins m × wp es m (EndsBy Head j)
-    pub round_by : (j : Job) (es : List Exchange) (p : R.Position) → Head j es p → Begins (R.round p) × wp es (R.round p) (EndsBy Head j)
+    pub round-by : (j : Job) (es : List Exchange) (p : R.Position) → Head j es p → Begins (R.round p) × wp es (R.round p) (EndsBy Head j)
 
   abbrev pub RefusedBy : Type 0
   RefusedBy = (f : Fit) (l : List Answer) → Started (engine R) f → GivenF64s l → (y : Reply) → Memᴰ y (run (engine R) f l).replies → Replied P f.job y

@@ -15,9 +15,9 @@ use Rattle.optim_record.specs.declared.Record.{Record}
 use Rattle.optim_record.specs.declared.Answered.{Answered}
 use Rattle.optim_record.specs.Record.{outcomeOf}
 use Rattle.optim_reply.specs.Spoken.{spokenBy, spokenIn}
-use Rattle.optim.specs.Answer.{answer_of}
+use Rattle.optim.specs.Answer.{answerOf}
 use Rattle.optim_lists.specs.Layout as place
-use Rattle.optim_lists.specs.Lists.{Lists, mark, recordOf, lists_of, flagsOnly, formedOf}
+use Rattle.optim_lists.specs.Lists.{Lists, mark, recordOf, listsOf, flagsOnly, formedOf}
 use Rattle.optim_lists.specs.Answered.{movedOf, answeredOf, pointWith, slopesWith}
 use Rattle.optim_lists.proofs.Answers.{unknown-flag, known-flags, answer-leaves}
 use Rattle.optim_lent_start.proofs.Laws.{Leaves, next-is, leaves, n-read}
@@ -46,23 +46,23 @@ module _ (l : Lists) (number kind : ℕ) (words : List Float) where
   answer-unknown p q false e t = subst (Leaves (Refused 1 0) l p q p q) (sym (unknown-flag l number kind words (sym e))) (record { outcome = refl; point = refl; slopes = refl })
 
   module _ (a : Answered) (r : Record) (p q : List Float) {p' q' : List Float} (b : Bool) (eb : b ≡ flagsOnly (drop place.flags l.marks)) (fine : not b ≡ false) (er : r ≡ recordOf l)
-      (ea : outcomeOf a ≡ answer_of r number kind words) (es : spokenIn a ≡ spokenBy (answer_of r number kind words))
+      (ea : outcomeOf a ≡ answerOf r number kind words) (es : spokenIn a ≡ spokenBy (answerOf r number kind words))
       (ep : p' ≡ pointWith (replyOf a.said 0 a.x a.g) a.x p) (eq : q' ≡ slopesWith (replyOf a.said 0 a.x a.g) a.g q) where
     abbrev A : Reply × Record
-    A = answer_of (recordOf l) number kind words
+    A = answerOf (recordOf l) number kind words
 
     known : formedOf l ≡ true
     unfolding formedOf
     known = sym eb ∙ not-false b fine
 
     outcome-is : outcomeOf a ≡ A
-    outcome-is = ea ∙ ap (λ (k : Record). answer_of k number kind words) er
+    outcome-is = ea ∙ ap (λ (k : Record). answerOf k number kind words) er
 
     ends : (l' : Lists) → l' ≡ movedOf l a.next → Leaves a.said l' p q p' q' (answeredOf l number kind words)
-    ends l' h = subst (Leaves a.said l' p q p' q') whole (leaves a A p q outcome-is (es ∙ ap (λ (k : Record). spokenBy (answer_of k number kind words)) er) ep eq l' (sym (n-read a A p q outcome-is (es ∙ ap (λ (k : Record). spokenBy (answer_of k number kind words)) er) ep eq l') ∙ ap (λ (k : Record). k.n) (left ∙ sym next)) left)
+    ends l' h = subst (Leaves a.said l' p q p' q') whole (leaves a A p q outcome-is (es ∙ ap (λ (k : Record). spokenBy (answerOf k number kind words)) er) ep eq l' (sym (n-read a A p q outcome-is (es ∙ ap (λ (k : Record). spokenBy (answerOf k number kind words)) er) ep eq l') ∙ ap (λ (k : Record). k.n) (left ∙ sym next)) left)
       where
         next : a.next ≡ A.1
-        next = next-is a A p q outcome-is (es ∙ ap (λ (k : Record). spokenBy (answer_of k number kind words)) er) ep eq
+        next = next-is a A p q outcome-is (es ∙ ap (λ (k : Record). spokenBy (answerOf k number kind words)) er) ep eq
 
         moved : l' ≡ (answeredOf l number kind words).1
         moved = h ∙ ap (movedOf l) next ∙ sym (ap (λ (o : Reply × Lists). o.1) (known-flags l number kind words known))
@@ -74,10 +74,10 @@ module _ (l : Lists) (number kind : ℕ) (words : List Float) where
         whole = ap (λ (k : Lists). (A.0, k)) (h ∙ ap (movedOf l) next) ∙ sym (known-flags l number kind words known)
 
     -- the count of accepted answers has moved, or not
-    pub answer-moved : (l' : Lists) → (a.next.accepted ≡ mark l.marks place.accepted → ⊥) → l' ≡ lists_of a.next → Leaves a.said l' p q p' q' (answeredOf l number kind words)
+    pub answer-moved : (l' : Lists) → (a.next.accepted ≡ mark l.marks place.accepted → ⊥) → l' ≡ listsOf a.next → Leaves a.said l' p q p' q' (answeredOf l number kind words)
     answer-moved l' d h = ends l' (h ∙ moves)
       where
-        moves : lists_of a.next ≡ movedOf l a.next
+        moves : listsOf a.next ≡ movedOf l a.next
         moves = rw (ne_eqb _ _ d)
 
     pub answer-left : a.next.accepted ≡ mark l.marks place.accepted → Leaves a.said l p q p' q' (answeredOf l number kind words)

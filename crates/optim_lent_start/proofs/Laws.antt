@@ -12,7 +12,7 @@ use Rattle.optim_record.specs.Record.{outcomeOf}
 use Rattle.optim_reply.specs.declared.Spoken.{Spoken}
 use Rattle.optim_reply.specs.Spoken.{spokenOf, spokenFrom, spokenBy, spokenIn}
 use Rattle.optim_lists.specs.Layout as place
-use Rattle.optim_lists.specs.Lists.{Lists, mark, recordOf, lists_of}
+use Rattle.optim_lists.specs.Lists.{Lists, mark, recordOf, listsOf}
 use Rattle.optim_lists.specs.Answered.{startedOf, pointWith, slopesWith, pointAfter, slopesAfter}
 use Rattle.optim_lists.proofs.Laws.{record-back}
 
@@ -97,14 +97,14 @@ module _ (a : Answered) (y : Reply × Record) (p q : List Float) {p' q' : List F
   n-read l = refl
 
   -- a start
-  pub started : (l : Lists) → l ≡ lists_of a.next → Leaves a.said l p q p' q' (startedOf y)
+  pub started : (l : Lists) → l ≡ listsOf a.next → Leaves a.said l p q p' q' (startedOf y)
   started l h = also (leaves l (sym (n-read l) ∙ ap (λ (r : Record). r.n) back) (back ∙ next-is))
     where
       back : recordOf l ≡ a.next
       back = ap recordOf h ∙ record-back a.next
 
       also : Leaves a.said l p q p' q' (y.0, l) → Leaves a.said l p q p' q' (startedOf y)
-      also = subst (λ (k : Lists). Leaves a.said l p q p' q' (y.0, k)) (h ∙ ap lists_of next-is)
+      also = subst (λ (k : Lists). Leaves a.said l p q p' q' (y.0, k)) (h ∙ ap listsOf next-is)
 
 -- and one that is the start z
 pub start-as : {o : Reply × Lists} {p' q' : List Float} (p q : List Float) (y z : Reply × Record) → y ≡ z

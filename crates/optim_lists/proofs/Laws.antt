@@ -14,7 +14,7 @@ use Rattle.quasinewton_limited.specs.declared.Pair.{Pair}
 use Rattle.neldermead_vertices.specs.declared.Vertex.{Vertex}
 use Rattle.optim_record.specs.declared.Record.{Record}
 use Rattle.optim_lists.specs.Layout as place
-use Rattle.optim_lists.specs.Lists.{Lists, mark, flag, verticesFrom, pairsFrom, recordOf, flagOf, marksOf, numbersOf, points_of, values_of, steps_of, changesOf, factorsOf, lists_of, flagsOnly, formedOf}
+use Rattle.optim_lists.specs.Lists.{Lists, mark, flag, verticesFrom, pairsFrom, recordOf, flagOf, marksOf, numbersOf, pointsOf, valuesOf, stepsOf, changesOf, factorsOf, listsOf, flagsOnly, formedOf}
 use Rattle.optim_lists.specs.Laws.{Long, ListsLaws}
 use Rattle.optim_lists.proofs.Places.{read-places}
 
@@ -52,23 +52,23 @@ flag-lies l e i h =
 
 -- ---- vertices and pairs
 
-vertices-back : (v : List Vertex) → verticesFrom (points_of v) (values_of v) ≡ v
+vertices-back : (v : List Vertex) → verticesFrom (pointsOf v) (valuesOf v) ≡ v
 unfolding verticesFrom
 vertices-back [] = refl
 vertices-back (a ∷ v) = ap (λ (w : List Vertex). a ∷ w) (vertices-back v)
 
-pairs-back : (p : List Pair) → pairsFrom (steps_of p) (changesOf p) (factorsOf p) ≡ p
+pairs-back : (p : List Pair) → pairsFrom (stepsOf p) (changesOf p) (factorsOf p) ≡ p
 unfolding pairsFrom
 pairs-back [] = refl
 pairs-back (a ∷ p) = ap (λ (q : List Pair). a ∷ q) (pairs-back p)
 
-points-back : (xs : List (List Float)) (fs : List Float) → length xs ≡ length fs → points_of (verticesFrom xs fs) ≡ xs
+points-back : (xs : List (List Float)) (fs : List Float) → length xs ≡ length fs → pointsOf (verticesFrom xs fs) ≡ xs
 unfolding verticesFrom
 points-back [] fs e = refl
 points-back (x ∷ xs) [] e = absurd (omega (arith, e))
 points-back (x ∷ xs) (f ∷ fs) e = ap (λ (l : List (List Float)). x ∷ l) (points-back xs fs (omega (arith, e)))
 
-values-back : (xs : List (List Float)) (fs : List Float) → length xs ≡ length fs → values_of (verticesFrom xs fs) ≡ fs
+values-back : (xs : List (List Float)) (fs : List Float) → length xs ≡ length fs → valuesOf (verticesFrom xs fs) ≡ fs
 unfolding verticesFrom
 values-back [] [] e = refl
 values-back [] (f ∷ fs) e = absurd (omega (arith, e))
@@ -77,7 +77,7 @@ values-back (x ∷ xs) (f ∷ fs) e = ap (λ (l : List Float). f ∷ l) (values-
 
 -- the three lists of pairs, each from the pairs that they are
 record Threefold (ss ys : List (List Float)) (rs : List Float) : Type 0 where
-  steps : steps_of (pairsFrom ss ys rs) ≡ ss
+  steps : stepsOf (pairsFrom ss ys rs) ≡ ss
   changes : changesOf (pairsFrom ss ys rs) ≡ ys
   factors : factorsOf (pairsFrom ss ys rs) ≡ rs
 
@@ -94,8 +94,8 @@ threefold (s ∷ ss) (y ∷ ys) (r ∷ rs) d e =
 
 -- ---- a record's one form is read back
 
-pub record-back : (r : Record) → recordOf (lists_of r) ≡ r
-unfolding recordOf lists_of marksOf numbersOf
+pub record-back : (r : Record) → recordOf (listsOf r) ≡ r
+unfolding recordOf listsOf marksOf numbersOf
 record-back r =
     let s = r.descent.search in
     rw (flag-read r.options.adaptive, flag-read r.gradient.gradients, flag-read r.diff.forward, flag-read r.descent.first, flag-read s.zooming, flag-read s.previous, flag-read s.kept, flag-read s.diff.forward, flag-read r.descent.diff.forward, flag-read r.model.limited, flag-read r.model.dense.fresh, vertices-back r.simplex.v, pairs-back r.model.pairs.pairs)
@@ -142,26 +142,26 @@ withRead l ms ws xs fs ss ys rs =
     }
 
 reads : (l : Lists) → (v : List Vertex) → v ≡ verticesFrom l.points l.values → (p : List Pair) → p ≡ pairsFrom l.steps l.changes l.factors
-    → lists_of (recordOf l) ≡ withRead l (marksOf (recordOf l)) (numbersOf (recordOf l)) (points_of v) (values_of v) (steps_of p) (changesOf p) (factorsOf p)
-unfolding lists_of recordOf
+    → listsOf (recordOf l) ≡ withRead l (marksOf (recordOf l)) (numbersOf (recordOf l)) (pointsOf v) (valuesOf v) (stepsOf p) (changesOf p) (factorsOf p)
+unfolding listsOf recordOf
 reads l v e p f = rw (e, f)
 
-pub lists_back : (l : Lists) → Long l → formedOf l ≡ true → lists_of (recordOf l) ≡ l
-lists_back l h e =
+pub lists-back : (l : Lists) → Long l → formedOf l ≡ true → listsOf (recordOf l) ≡ l
+lists-back l h e =
     let t = threefold l.steps l.changes l.factors (h.steps ∙ sym h.changes) (h.changes ∙ sym h.factors) in
     let even = h.points ∙ sym h.values in
     reads l (verticesFrom l.points l.values) refl (pairsFrom l.steps l.changes l.factors) refl
     ∙ rw (marks-back l h.marks e, numbers-back l h.numbers, points-back l.points l.values even, values-back l.points l.values even, t.steps, t.changes, t.factors)
 
-same_lists : (l k : Lists) → Long l → Long k → formedOf l ≡ true → formedOf k ≡ true → recordOf l ≡ recordOf k → l ≡ k
-same_lists l k a b e f h = sym (lists_back l a e) ∙ ap lists_of h ∙ lists_back k b f
+same-lists : (l k : Lists) → Long l → Long k → formedOf l ≡ true → formedOf k ≡ true → recordOf l ≡ recordOf k → l ≡ k
+same-lists l k a b e f h = sym (lists-back l a e) ∙ ap listsOf h ∙ lists-back k b f
 
 -- the flags of a record's one form are known marks
-pub formed : (r : Record) → formedOf (lists_of r) ≡ true
-unfolding formedOf lists_of marksOf
+pub formed : (r : Record) → formedOf (listsOf r) ≡ true
+unfolding formedOf listsOf marksOf
 formed r =
     let s = r.descent.search in
     rw (flag-known r.options.adaptive, flag-known r.gradient.gradients, flag-known r.diff.forward, flag-known r.descent.first, flag-known s.zooming, flag-known s.previous, flag-known s.kept, flag-known s.diff.forward, flag-known r.descent.diff.forward, flag-known r.model.limited, flag-known r.model.dense.fresh)
 
 pub lists-laws : ListsLaws
-lists-laws = record { record-back = record-back; formed = formed; lists_back = lists_back; same_lists = same_lists }
+lists-laws = record { record-back = record-back; formed = formed; lists-back = lists-back; same-lists = same-lists }

@@ -27,19 +27,19 @@ map-all f z (x ∷ l) = upto-front (λ i. f (get_or (x ∷ l) i z)) (length l) �
 pub map-places : {A B : Type 0} (f : A → B) (z : A) (l : List A) (n : ℕ) → length l ≡ n → upto (λ i. f (get_or l i z)) n ≡ map f l
 map-places f z l n e = ap (upto (λ i. f (get_or l i z))) (sym e) ∙ map-all f z l
 
-map_same : {A : Type 0} (l : List A) → map (λ x. x) l ≡ l
-map_same [] = refl
-map_same (x ∷ l) = ap (λ k. x ∷ k) (map_same l)
+map-same : {A : Type 0} (l : List A) → map (λ x. x) l ≡ l
+map-same [] = refl
+map-same (x ∷ l) = ap (λ k. x ∷ k) (map-same l)
 
 pub read-places : {A : Type 0} (z : A) (l : List A) (n : ℕ) → length l ≡ n → upto (λ i. get_or l i z) n ≡ l
-read-places z l n e = map-places (λ x. x) z l n e ∙ map_same l
+read-places z l n e = map-places (λ x. x) z l n e ∙ map-same l
 
 -- the vertex and the pair of one place
 abbrev pub vertexOf : List (List Float) → List Float → ℕ → Vertex
 vertexOf xs fs i = record { x = get_or xs i []; f = at fs i }
 
-abbrev pub pair_of : List (List Float) → List (List Float) → List Float → ℕ → Pair
-pair_of ss ys rs i = record { s = get_or ss i []; y = get_or ys i []; rho = at rs i }
+abbrev pub pairOf : List (List Float) → List (List Float) → List Float → ℕ → Pair
+pairOf ss ys rs i = record { s = get_or ss i []; y = get_or ys i []; rho = at rs i }
 
 vertices-all : (xs : List (List Float)) (fs : List Float) → length xs ≡ length fs → upto (vertexOf xs fs) (length xs) ≡ verticesFrom xs fs
 unfolding verticesFrom
@@ -48,34 +48,34 @@ vertices-all (x ∷ xs) [] e = absurd (omega (arith, e))
 vertices-all (x ∷ xs) (f ∷ fs) e =
     upto-front (vertexOf (x ∷ xs) (f ∷ fs)) (length xs) ∙ ap (λ (v : List Vertex). record { x = x; f = f } ∷ v) (vertices-all xs fs (omega (arith, e)))
 
-pairs-all : (ss ys : List (List Float)) (rs : List Float) → length ss ≡ length ys → length ys ≡ length rs → upto (pair_of ss ys rs) (length ss) ≡ pairsFrom ss ys rs
+pairs-all : (ss ys : List (List Float)) (rs : List Float) → length ss ≡ length ys → length ys ≡ length rs → upto (pairOf ss ys rs) (length ss) ≡ pairsFrom ss ys rs
 unfolding pairsFrom
 pairs-all [] ys rs d e = refl
 pairs-all (s ∷ ss) [] rs d e = absurd (omega (arith, d))
 pairs-all (s ∷ ss) (y ∷ ys) [] d e = absurd (omega (arith, e))
 pairs-all (s ∷ ss) (y ∷ ys) (r ∷ rs) d e =
-    upto-front (pair_of (s ∷ ss) (y ∷ ys) (r ∷ rs)) (length ss) ∙ ap (λ (p : List Pair). record { s = s; y = y; rho = r } ∷ p) (pairs-all ss ys rs (omega (arith, d)) (omega (arith, e)))
+    upto-front (pairOf (s ∷ ss) (y ∷ ys) (r ∷ rs)) (length ss) ∙ ap (λ (p : List Pair). record { s = s; y = y; rho = r } ∷ p) (pairs-all ss ys rs (omega (arith, d)) (omega (arith, e)))
 
 pub vertices-places : (xs : List (List Float)) (fs : List Float) → length xs ≡ 17 → length fs ≡ 17 → upto (vertexOf xs fs) 17 ≡ verticesFrom xs fs
 vertices-places xs fs d e = ap (upto (vertexOf xs fs)) (sym d) ∙ vertices-all xs fs (d ∙ sym e)
 
-pub pairs-places : (ss ys : List (List Float)) (rs : List Float) → length ss ≡ 16 → length ys ≡ 16 → length rs ≡ 16 → upto (pair_of ss ys rs) 16 ≡ pairsFrom ss ys rs
-pairs-places ss ys rs d e f = ap (upto (pair_of ss ys rs)) (sym d) ∙ pairs-all ss ys rs (d ∙ sym e) (e ∙ sym f)
+pub pairs-places : (ss ys : List (List Float)) (rs : List Float) → length ss ≡ 16 → length ys ≡ 16 → length rs ≡ 16 → upto (pairOf ss ys rs) 16 ≡ pairsFrom ss ys rs
+pairs-places ss ys rs d e f = ap (upto (pairOf ss ys rs)) (sym d) ∙ pairs-all ss ys rs (d ∙ sym e) (e ∙ sym f)
 
 -- ---- set place by place
 
 abbrev setOf : {A : Type 0} → (ℕ → A) → List A → ℕ → List A
 setOf g z = fold (λ l i. set l i (g i)) z
 
-set_front : {A : Type 0} (g : ℕ → A) (z : List A) (k : ℕ) → k ≤ length z → setOf g z k ≡ upto g k ++ drop k z
-set_front g z zero h = refl
-set_front g z (suc k) h =
-    ap (λ l. set l k (g k)) (set_front g z k (omega (arith, h)) ∙ ap (λ l. upto g k ++ l) (drop-cons z k (g k) (omega (arith, h))))
+set-front : {A : Type 0} (g : ℕ → A) (z : List A) (k : ℕ) → k ≤ length z → setOf g z k ≡ upto g k ++ drop k z
+set-front g z zero h = refl
+set-front g z (suc k) h =
+    ap (λ l. set l k (g k)) (set-front g z k (omega (arith, h)) ∙ ap (λ l. upto g k ++ l) (drop-cons z k (g k) (omega (arith, h))))
     ∙ set_at (upto g k) (get_or z k (g k)) (drop (suc k) z) (g k) k (length-upto g k)
     ∙ sym (append_snoc (upto g k) (g k) (drop (suc k) z))
 
 set-places : {A : Type 0} (g : ℕ → A) (z : List A) (n : ℕ) → length z ≡ n → setOf g z n ≡ upto g n
-set-places g z n e = set_front g z n (omega (arith, e)) ∙ ap (λ l. upto g n ++ l) (drop_of_length-le z {i = n} (omega (arith, e))) ∙ append-nil (upto g n)
+set-places g z n e = set-front g z n (omega (arith, e)) ∙ ap (λ l. upto g n ++ l) (drop_of_length-le z {i = n} (omega (arith, e))) ∙ append-nil (upto g n)
 
 -- a loop over z has set the first i of its n places, each to what g has for it
 pub record Setting {A : Type 0} (n : ℕ) (g : ℕ → A) (z s : List A) (i : ℕ) : Type 0 where

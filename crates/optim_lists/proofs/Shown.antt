@@ -23,15 +23,15 @@ use Rattle.optim_reply.proofs.Says.{spoken-stands, stands-keeps}
 use Rattle.optim_first_record.specs.Starts.{begunRecordOf, simplexRefusalOf, simplexRecordOf, searchRefusalOf, searchRecordOf, gradientRefusalOf, gradientRecordOf}
 use Rattle.optim_rules.specs.Rules.{meetsOf}
 use Rattle.optim_start.specs.Start.{differencesOf, simplexOf, searchOf, gradientOf, bfgsOf, lbfgsOf}
-use Rattle.optim.specs.Answer.{answer_of}
+use Rattle.optim.specs.Answer.{answerOf}
 use Rattle.optim.specs.Parts.{repliedOf}
 use Rattle.optim.proofs.Advance.{replies}
 use Rattle.optim_lists.specs.Layout as place
-use Rattle.optim_lists.specs.Lists.{Lists, mark, recordOf, lists_of, formedOf}
+use Rattle.optim_lists.specs.Lists.{Lists, mark, recordOf, listsOf, formedOf}
 use Rattle.optim_lists.specs.Answered.{answeredOf, startedOf, pointWith, slopesWith, pointAfter, slopesAfter}
 use Rattle.optim_lists.specs.Shown.{Shown, Shows, ListsShow}
 use Rattle.optim_lists.proofs.Laws.{record-back}
-use Rattle.optim_lists.proofs.Answers.{kept_next, unknown-flag, answer-replies, answer-leaves}
+use Rattle.optim_lists.proofs.Answers.{kept-next, unknown-flag, answer-replies, answer-leaves}
 
 n-read : (l : Lists) → (recordOf l).n ≡ mark l.marks place.n
 unfolding recordOf
@@ -72,10 +72,10 @@ module _ (l : Lists) (number kind : ℕ) (words : List Float) where
   abbrev why : ℕ
   why = meetsOf (recordOf l) number kind (length words)
 
-  kept-is : formedOf l ≡ true → (answer_of (recordOf l) number kind words).0 ≡ (repliedOf (recordOf after) why).0
+  kept-is : formedOf l ≡ true → (answerOf (recordOf l) number kind words).0 ≡ (repliedOf (recordOf after) why).0
   kept-is e =
       ap (λ (a : Reply × Record). a.0) (sym (replies (recordOf l) number kind words))
-      ∙ ap (λ (r : Record). (repliedOf r why).0) (sym (kept_next (recordOf l) number kind words) ∙ sym (answer-leaves l number kind words e))
+      ∙ ap (λ (r : Record). (repliedOf r why).0) (sym (kept-next (recordOf l) number kind words) ∙ sym (answer-leaves l number kind words e))
 
   answer-shown : Shows (answeredOf l number kind words)
   answer-shown = go (formedOf l) refl
@@ -88,7 +88,7 @@ module _ (l : Lists) (number kind : ℕ) (words : List Float) where
 
 stands-started : (r : Record) → Shows (startedOf (standingOf r))
 stands-started r =
-    subst (λ (q : Record). Shows ((standingOf r).0, lists_of q)) (sym (stands-keeps r)) (subst (λ (q : Record). Shows ((standingOf q).0, lists_of r)) (record-back r) (stands-shown (lists_of r)))
+    subst (λ (q : Record). Shows ((standingOf r).0, listsOf q)) (sym (stands-keeps r)) (subst (λ (q : Record). Shows ((standingOf q).0, listsOf r)) (record-back r) (stands-shown (listsOf r)))
 
 -- a start that meets one refusal or another hands back the blank record; else it puts what stands
 refuses-or : (b : Bool) (k d : ℕ) (y : Reply × Record) → Shows (startedOf y) → Shows (startedOf (cond b (refusedOf blankOf k d) y))

@@ -3,24 +3,24 @@ use Rattle.std.specs.Prelude.{ℕ, cond, List, eqb, Float}
 use Rattle.protocol.specs.Protocol.{Outcome, fitted, searched, differenced, Reply, ask, ended, refused}
 use Rattle.optim_record.specs.declared.Record.{Record}
 use Rattle.optim_reply.specs.Spoken.{spokenOf}
-use Rattle.optim.specs.Answer.{answer_of}
+use Rattle.optim.specs.Answer.{answerOf}
 use Rattle.optim_lists.specs.Layout as place
-use Rattle.optim_lists.specs.Lists.{Lists, mark, recordOf, lists_of, formedOf}
+use Rattle.optim_lists.specs.Lists.{Lists, mark, recordOf, listsOf, formedOf}
 
 -- ---- the record's lists
 
 -- "A refused or repeated answer returns the very record that was passed, never one built anew": where the count of accepted answers has not moved, no list has; an accepted answer
 -- leaves the one form of the record that it makes
 abbrev pub movedOf : Lists → Record → Lists
-movedOf l r = cond (eqb r.accepted (mark l.marks place.accepted)) l (lists_of r)
+movedOf l r = cond (eqb r.accepted (mark l.marks place.accepted)) l (listsOf r)
 
 -- the answer to the record that the lists are, but for a flag that is an unknown mark: 1, and the lists as they were
 unfoldable pub answeredOf : Lists → ℕ → ℕ → List Float → Reply × Lists
-answeredOf l number kind words = let a = answer_of (recordOf l) number kind words in cond (formedOf l) (a.0, movedOf l a.1) (refused 1 0, l)
+answeredOf l number kind words = let a = answerOf (recordOf l) number kind words in cond (formedOf l) (a.0, movedOf l a.1) (refused 1 0, l)
 
 -- a start leaves the one form of its record, whatever the lists held; a refused one that of the blank record
 abbrev pub startedOf : Reply × Record → Reply × Lists
-startedOf a = (a.0, lists_of a.1)
+startedOf a = (a.0, listsOf a.1)
 
 -- ---- the lists beside it
 

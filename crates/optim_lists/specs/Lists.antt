@@ -245,14 +245,14 @@ numbersOf r =
     ∷ r.model.pairs.gamma
     ∷ []
 
-abbrev pub points_of : List Vertex → List (List Float)
-points_of v = map (λ (a : Vertex). a.x) v
+abbrev pub pointsOf : List Vertex → List (List Float)
+pointsOf v = map (λ (a : Vertex). a.x) v
 
-abbrev pub values_of : List Vertex → List Float
-values_of v = map (λ (a : Vertex). a.f) v
+abbrev pub valuesOf : List Vertex → List Float
+valuesOf v = map (λ (a : Vertex). a.f) v
 
-abbrev pub steps_of : List Pair → List (List Float)
-steps_of p = map (λ (a : Pair). a.s) p
+abbrev pub stepsOf : List Pair → List (List Float)
+stepsOf p = map (λ (a : Pair). a.s) p
 
 abbrev pub changesOf : List Pair → List (List Float)
 changesOf p = map (λ (a : Pair). a.y) p
@@ -260,8 +260,8 @@ changesOf p = map (λ (a : Pair). a.y) p
 abbrev pub factorsOf : List Pair → List Float
 factorsOf p = map (λ (a : Pair). a.rho) p
 
-unfoldable pub lists_of : Record → Lists
-lists_of r =
+unfoldable pub listsOf : Record → Lists
+listsOf r =
     record {
       marks = marksOf r;
       numbers = numbersOf r;
@@ -271,8 +271,8 @@ lists_of r =
       bestX = r.simplex.best.x;
       centroid = r.simplex.cen;
       reflectedX = r.simplex.refl.x;
-      points = points_of r.simplex.v;
-      values = values_of r.simplex.v;
+      points = pointsOf r.simplex.v;
+      values = valuesOf r.simplex.v;
       lineX = r.descent.line.x;
       lineG = r.descent.line.g;
       lineD = r.descent.line.d;
@@ -283,7 +283,7 @@ lists_of r =
       firstDiffX = r.descent.diff.x;
       firstDiffG = r.descent.diff.g;
       hessian = r.model.dense.h;
-      steps = steps_of r.model.pairs.pairs;
+      steps = stepsOf r.model.pairs.pairs;
       changes = changesOf r.model.pairs.pairs;
       factors = factorsOf r.model.pairs.pairs;
     }

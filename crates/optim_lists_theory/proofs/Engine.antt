@@ -10,19 +10,19 @@ use Rattle.protocol.specs.Bounds.{questionsOf}
 use Rattle.protocol.specs.Follow.{Follows}
 use Rattle.protocol.proofs.Follow.{claim-follows}
 use Rattle.optim_record.specs.declared.Record.{Record}
-use Rattle.optim_record.specs.Record.{valid_of}
+use Rattle.optim_record.specs.Record.{validOf}
 use Rattle.optim_theory.specs.Engine.{startCode, answerCode, code}
 use Rattle.optim_theory.proofs.Engine.{code-claim, code-at-most}
 use Rattle.optim_theory.proofs.EngineRecords as records
-use Rattle.optim_lists.specs.Lists.{Lists, recordOf, lists_of, formedOf}
+use Rattle.optim_lists.specs.Lists.{Lists, recordOf, listsOf, formedOf}
 use Rattle.optim_lists.specs.Answered.{startedOf}
 use Rattle.optim_lists_theory.specs.Engine.{startLists, answerLists, lent, inLists, LentClaim, LentAtMost}
 use Rattle.optim_lists.proofs.Laws as laws
 use Rattle.optim_lists.proofs.Answers.{lists-answer}
 
 -- an answer to the one form of a record
-answered : (r : Record) (a : Answer) → answerLists (lists_of r) a ≡ startedOf (answerCode r a)
-answered r a = lists-answer.one_form r a.number a.kind a.words
+answered : (r : Record) (a : Answer) → answerLists (listsOf r) a ≡ startedOf (answerCode r a)
+answered r a = lists-answer.one-form r a.number a.kind a.words
 
 -- ---- list by list
 
@@ -45,13 +45,13 @@ as-records f l = give-all-in (begin code f) l
 lent-follows : Follows Lists Record startLists answerLists startCode answerCode
 lent-follows =
     record {
-      Related = λ l r. l ≡ lists_of r;
+      Related = λ l r. l ≡ listsOf r;
       starts = λ f. (refl, λ n. refl);
       answers = λ l r a w h. let e = ap (λ (k : Lists). answerLists k a) h ∙ answered r a in (ap (λ (y : Reply × Lists). y.0) e, ap (λ (y : Reply × Lists). y.1) e);
-      stays = λ l r a w h e. ap (λ (y : Reply × Lists). y.1) (ap (λ (k : Lists). answerLists k a) h ∙ answered r a) ∙ ap lists_of e ∙ sym h;
+      stays = λ l r a w h e. ap (λ (y : Reply × Lists). y.1) (ap (λ (k : Lists). answerLists k a) h ∙ answered r a) ∙ ap listsOf e ∙ sym h;
     }
 
-now-in : (f : Fit) (l : List Answer) → (run lent f l).recordNow ≡ lists_of (run code f l).recordNow
+now-in : (f : Fit) (l : List Answer) → (run lent f l).recordNow ≡ listsOf (run code f l).recordNow
 now-in f l = ap (λ (d : Dialogue Lists). d.recordNow) (as-records f l)
 
 pub lent-claim : LentClaim
@@ -60,7 +60,7 @@ lent-claim =
       as-records = as-records;
       claim = claim-follows Lists Record startLists answerLists startCode answerCode lent-follows code-claim;
       formed = λ f l. ap formedOf (now-in f l) ∙ laws.formed (run code f l).recordNow;
-      in-range = λ f l n. ap (λ (k : Lists). valid_of (recordOf k)) (now-in f l) ∙ ap valid_of (laws.record-back (run code f l).recordNow) ∙ records.in-range f l n;
+      in-range = λ f l n. ap (λ (k : Lists). validOf (recordOf k)) (now-in f l) ∙ ap validOf (laws.record-back (run code f l).recordNow) ∙ records.in-range f l n;
     }
 
 -- ---- how many questions

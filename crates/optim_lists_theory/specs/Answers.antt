@@ -6,34 +6,34 @@ use Rattle.protocol.specs.declared.GradientOptions.{GradientOptions}
 use Rattle.protocol.specs.declared.WolfeOptions.{WolfeOptions}
 use Rattle.protocol.specs.declared.Allowances.{Allowances}
 use Rattle.protocol.specs.Protocol.{Reply, refused}
-use Rattle.optim_record.specs.Record.{blankOf, valid_of}
+use Rattle.optim_record.specs.Record.{blankOf, validOf}
 use Rattle.optim_reply.specs.Standing.{standingOf}
 use Rattle.optim_rules.specs.Rules.{repeatsOf}
 use Rattle.optim_start.specs.Start.{differencesOf, simplexOf, searchOf, bfgsOf, lbfgsOf}
 use Rattle.optim_theory.specs.Replies.{Among, turnsAway, refusesAnswer, refusesSimplex, refusesBfgs, refusesLbfgs, refusesSearch, refusesDifferences}
 use Rattle.optim_lists.specs.Layout as place
-use Rattle.optim_lists.specs.Lists.{Lists, mark, recordOf, lists_of, formedOf}
+use Rattle.optim_lists.specs.Lists.{Lists, mark, recordOf, listsOf, formedOf}
 use Rattle.optim_lists.specs.Answered.{answeredOf, startedOf}
 
 -- ---- `Answers` of optim_theory, of every list of marks and numbers, and every number, letter and list of words
 
 pub record ListsAnswers : Type 0 where
-  pub in_scope : (l : Lists) (number kind : ℕ) (words : List Float) → Among refusesAnswer (answeredOf l number kind words).0
+  pub in-scope : (l : Lists) (number kind : ℕ) (words : List Float) → Among refusesAnswer (answeredOf l number kind words).0
   -- refused
   pub refused-keeps : (l : Lists) (number kind : ℕ) (words : List Float) (k d : ℕ) → (answeredOf l number kind words).0 ≡ refused k d → T (turnsAway k) → (answeredOf l number kind words).1 ≡ l
   -- a repeat brings again what stands
-  pub repeat-keeps : (l : Lists) (number kind : ℕ) (words : List Float) → formedOf l ≡ true → valid_of (recordOf l) ≡ true → repeatsOf (mark l.marks place.accepted) number ≡ true
+  pub repeat-keeps : (l : Lists) (number kind : ℕ) (words : List Float) → formedOf l ≡ true → validOf (recordOf l) ≡ true → repeatsOf (mark l.marks place.accepted) number ≡ true
       → ((answeredOf l number kind words).0 ≡ (standingOf (recordOf l)).0) × ((answeredOf l number kind words).1 ≡ l)
   -- 1 before all else: a flag that is an unknown mark, then what `valid_of` finds
   pub unknown-flag : (l : Lists) (number kind : ℕ) (words : List Float) → formedOf l ≡ false → answeredOf l number kind words ≡ (refused 1 0, l)
-  pub out_of_range : (l : Lists) (number kind : ℕ) (words : List Float) → formedOf l ≡ true → valid_of (recordOf l) ≡ false → answeredOf l number kind words ≡ (refused 1 0, l)
+  pub out-of-range : (l : Lists) (number kind : ℕ) (words : List Float) → formedOf l ≡ true → validOf (recordOf l) ≡ false → answeredOf l number kind words ≡ (refused 1 0, l)
 
 -- ---- starts
 
 -- the reply is of that scope, and a refused start leaves the blank record's lists
 pub record StartedReplies (these : ℕ → ℕ → Bool) (y : Reply × Lists) : Type 0 where
-  pub in_scope : Among these y.0
-  pub no_record : (k d : ℕ) → y.0 ≡ refused k d → y.1 ≡ lists_of blankOf
+  pub in-scope : Among these y.0
+  pub no-record : (k d : ℕ) → y.0 ≡ refused k d → y.1 ≡ listsOf blankOf
 
 pub record ListsStarts : Type 0 where
   pub simplex : (x : List Float) (o : SimplexOptions) (a : Allowances) → StartedReplies refusesSimplex (startedOf (simplexOf x o a))

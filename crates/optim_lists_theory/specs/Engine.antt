@@ -11,9 +11,9 @@ use Rattle.protocol.specs.Bounds.{questionsOf}
 use Rattle.neldermead_theory.specs.Counts.{byFevals, byIterations}
 use Rattle.quasinewton_theory.specs.Counts.{withGradients, withoutGradients, GradientJob}
 use Rattle.optim_record.specs.declared.Record.{Record}
-use Rattle.optim_record.specs.Record.{valid_of}
+use Rattle.optim_record.specs.Record.{validOf}
 use Rattle.optim_theory.specs.Engine.{startCode, code}
-use Rattle.optim_lists.specs.Lists.{Lists, recordOf, lists_of, formedOf}
+use Rattle.optim_lists.specs.Lists.{Lists, recordOf, listsOf, formedOf}
 use Rattle.optim_lists.specs.Answered.{answeredOf, startedOf}
 
 abbrev pub startLists : Fit → Reply × Lists
@@ -28,7 +28,7 @@ lent = record { Record = Lists; start = startLists; answer = answerLists }
 
 -- what a list of answers has come to, with the one form of its record
 abbrev pub inLists : Dialogue Record → Dialogue Lists
-inLists d = record { standing = d.standing; recordNow = lists_of d.recordNow; questions = d.questions; exchanges = d.exchanges; replies = d.replies }
+inLists d = record { standing = d.standing; recordNow = listsOf d.recordNow; questions = d.questions; exchanges = d.exchanges; replies = d.replies }
 
 pub record LentClaim : Type 0 where
   -- along every list of answers: the same questions, answers taken and replies, and the one form of the same record
@@ -37,7 +37,7 @@ pub record LentClaim : Type 0 where
   pub claim : Claim lent
   -- no lists made by a start and answers ever meet refusal 1
   pub formed : (f : Fit) (l : List Answer) → formedOf (run lent f l).recordNow ≡ true
-  pub in-range : (f : Fit) (l : List Answer) → Started lent f → valid_of (recordOf (run lent f l).recordNow) ≡ true
+  pub in-range : (f : Fit) (l : List Answer) → Started lent f → validOf (recordOf (run lent f l).recordNow) ≡ true
 
 -- "Simplex: at most M+(R+1)(n+1), and at most (R+1)(n+1)+I(n+2). Gradient fits: with gradients 1+I·E of each kind, without (1+2n)(1+I·E)" questions, whatever is answered
 pub record LentAtMost : Type 0 where

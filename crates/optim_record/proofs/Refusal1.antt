@@ -8,7 +8,7 @@ use mathlib.Core.List.{[], ◌∷◌}
 use lib.Dec.{eqb, leb}
 use borrow.Author.Tests.{leb-true, eqb-true, le-leb, eq-eqb, ne_eqb}
 use Rattle.optim_record.specs.declared.Record.{Record}
-use Rattle.optim_record.specs.Record.{simplexMark, bfgsMark, lbfgsMark, searchMark, differencesMark, gradientJobOf, validSimplexOf, validSearchOf, validDescentOf, valid_of}
+use Rattle.optim_record.specs.Record.{simplexMark, bfgsMark, lbfgsMark, searchMark, differencesMark, gradientJobOf, validSimplexOf, validSearchOf, validDescentOf, validOf}
 use Rattle.optim_record.specs.Refusal1.{Descends, Searches, OneOf, InRange, RefusesExactly}
 use Rattle.optim_record.proofs.Refusal1Parts.{SimplexPart, SearchPart, BarePart, DescentPart, Common, by-job, simplex-part, bare-part, descent-part, whole}
 
@@ -57,16 +57,16 @@ module _ (r : Record) where
 
   -- ---- in range, job by job
 
-  pub simplex-valid : r.job ≡ simplexMark → Common r → SimplexPart r → valid_of r ≡ true
+  pub simplex-valid : r.job ≡ simplexMark → Common r → SimplexPart r → validOf r ≡ true
   simplex-valid j c p = (whole r).1 (c, at-simplex j ∙ (simplex-part r).1 p)
 
-  pub search-valid : r.job ≡ searchMark → Common r → BarePart r → valid_of r ≡ true
+  pub search-valid : r.job ≡ searchMark → Common r → BarePart r → validOf r ≡ true
   search-valid j c p = (whole r).1 (c, at-search j ∙ (bare-part r).1 p)
 
-  pub descent-valid : Descends r → Common r → DescentPart r → valid_of r ≡ true
+  pub descent-valid : Descends r → Common r → DescentPart r → validOf r ≡ true
   descent-valid j c p = (whole r).1 (c, at-descent j ∙ (descent-part r j).1 p)
 
-  pub differences-valid : r.job ≡ differencesMark → Common r → r.diff.at ≤ r.n → valid_of r ≡ true
+  pub differences-valid : r.job ≡ differencesMark → Common r → r.diff.at ≤ r.n → validOf r ≡ true
   differences-valid j c p = (whole r).1 (c, at-differences j ∙ le-leb r.diff.at r.n p)
 
 -- ---- both ways
@@ -78,22 +78,22 @@ module _ (r : Record) (e : by-job r ≡ true) where
   of-descent : Descends r → DescentPart r
   of-descent j = (descent-part r j).0 (sym (at-descent r j) ∙ e)
 
-  of_bare : r.job ≡ searchMark → BarePart r
-  of_bare j = (bare-part r).0 (sym (at-search r j) ∙ e)
+  of-bare : r.job ≡ searchMark → BarePart r
+  of-bare j = (bare-part r).0 (sym (at-search r j) ∙ e)
 
   of-search : Searches r → SearchPart r
   of-search (inl j) = (of-descent j).search
-  of-search (inr j) = (of_bare j).search
+  of-search (inr j) = (of-bare j).search
 
   some-unknown : (r.job ≡ differencesMark → ⊥) → KnownJob r → 0 < r.n
   some-unknown none (inl j) = (of-simplex j).some-n
   some-unknown none (inr (inl j)) = (of-descent (inl j)).some-n
   some-unknown none (inr (inr (inl j))) = (of-descent (inr j)).some-n
-  some-unknown none (inr (inr (inr (inl j)))) = (of_bare j).some-n
+  some-unknown none (inr (inr (inr (inl j)))) = (of-bare j).some-n
   some-unknown none (inr (inr (inr (inr (inl j))))) = absurd (none j)
   some-unknown none (inr (inr (inr (inr (inr x))))) = elim x [ ]
 
-pub in-range : (r : Record) → valid_of r ≡ true → InRange r
+pub in-range : (r : Record) → validOf r ≡ true → InRange r
 in-range r v =
     let (c, e) = (whole r).0 v in
     record {
@@ -122,7 +122,7 @@ in-range r v =
         dense = λ j. (of-descent r e (inl j)).model.dense j;
         limited = λ j. (of-descent r e (inr j)).model.limited j;
         memory = λ j. (of-descent r e (inr j)).model.copy j;
-        searching = λ j. (of_bare r e j).phase;
+        searching = λ j. (of-bare r e j).phase;
         search = λ j. let p = of-search r e j in (p.phase-low, p.phase-high);
       };
       counts = record {
@@ -174,7 +174,7 @@ module _ (r : Record) (h : InRange r) where
   to-common : Common r
   to-common = record { few = h.unknowns.most; accepted = h.counts.accepted; fevals = h.counts.fevals; gevals = h.counts.gevals }
 
-  valid : KnownJob r → valid_of r ≡ true
+  valid : KnownJob r → validOf r ≡ true
   valid (inl j) = simplex-valid r j to-common (to-simplex j)
   valid (inr (inl j)) = descent-valid r (inl j) to-common (to-descent (inl j))
   valid (inr (inr (inl j))) = descent-valid r (inr j) to-common (to-descent (inr j))

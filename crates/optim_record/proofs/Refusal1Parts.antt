@@ -9,7 +9,7 @@ use lib.Dec.{eqb, ltb, leb}
 use borrow.Author.Tests.{ltb-false, leb-true, eqb-true, eqb-false, not-true, not-false, le-ltb, le-leb, eq-eqb, ne_eqb}
 use Rattle.quasinewton_record.specs.declared.Descent.{Descent}
 use Rattle.optim_record.specs.declared.Record.{Record}
-use Rattle.optim_record.specs.Record.{simplexMark, bfgsMark, lbfgsMark, searchMark, differencesMark, noLimit, gradientJobOf, validSimplexOf, validSearchPartOf, validSearchOf, knownRefusalOf, validEndingOf, validOptionsOf, validModelOf, validDescentOf, valid_of}
+use Rattle.optim_record.specs.Record.{simplexMark, bfgsMark, lbfgsMark, searchMark, differencesMark, noLimit, gradientJobOf, validSimplexOf, validSearchPartOf, validSearchOf, knownRefusalOf, validEndingOf, validOptionsOf, validModelOf, validDescentOf, validOf}
 use Rattle.optim_record.specs.Refusal1.{Descends, OneOf, EndingMark}
 
 -- ---- tests, each with what it means
@@ -27,8 +27,8 @@ either false x p q = (λ e. inr (q.0 e), λ h. ⊎_elim (λ a. absurd (true≢fa
 denied : {A : Type 0} (b : Bool) → (b ≡ true) ↔ A → (not b ≡ false) ↔ A
 denied b p = (λ e. p.0 (not-false b e), λ h. ap not (p.1 h))
 
-at_most : (a b : ℕ) → (ltb b a ≡ false) ↔ (a ≤ b)
-at_most a b = (ltb-false b a, le-ltb b a)
+at-most : (a b : ℕ) → (ltb b a ≡ false) ↔ (a ≤ b)
+at-most a b = (ltb-false b a, le-ltb b a)
 
 last-at-most : (a b : ℕ) → (leb a b ≡ true) ↔ (a ≤ b)
 last-at-most a b = (leb-true a b, le-leb a b)
@@ -136,12 +136,12 @@ simplex-part r =
     let s = r.simplex in
     let t =
     both _ _ (some r.n)
-    (both _ _ (at_most s.at r.n)
+    (both _ _ (at-most s.at r.n)
     (both _ _ (some s.phase)
-    (both _ _ (at_most s.phase 11)
-    (both _ _ (at_most s.rounds 40000000000)
-    (both _ _ (at_most s.runs 40000000000)
-    (both _ _ (at_most r.limits.iter 1000000) (both _ _ (at_most r.limits.fevals 1000000) (last-at-most r.options.restarts 100)))))))) in (
+    (both _ _ (at-most s.phase 11)
+    (both _ _ (at-most s.rounds 40000000000)
+    (both _ _ (at-most s.runs 40000000000)
+    (both _ _ (at-most r.limits.iter 1000000) (both _ _ (at-most r.limits.fevals 1000000) (last-at-most r.options.restarts 100)))))))) in (
       λ e.
           let (n, (v, (l, (h, (k, (u, (i, (f, m)))))))) = t.0 e in
           record { some-n = n; vertex = v; phase-low = l; phase-high = h; rounds = k; runs = u; iter = i; fevals = f; restarts = m },
@@ -162,7 +162,7 @@ search-part r =
     let s = r.descent.search in
     let e = r.gradient.wolfe.evals in
     let t =
-    both _ _ (some s.phase) (both _ _ (at_most s.phase 5) (both _ _ (at_most e 1000) (both _ _ (at_most s.trials e) (last-at-most s.diff.at r.n)))) in (
+    both _ _ (some s.phase) (both _ _ (at-most s.phase 5) (both _ _ (at-most e 1000) (both _ _ (at-most s.trials e) (last-at-most s.diff.at r.n)))) in (
       λ z. let (l, (h, (m, (k, a)))) = t.0 z in record { phase-low = l; phase-high = h; evals = m; trials = k; at = a },
       λ p. t.1 (p.phase-low, (p.phase-high, (p.evals, (p.trials, p.at)))),
     )
@@ -198,7 +198,7 @@ model-part r (inl i) =
 model-part r (inr i) =
     let other : r.job ≡ bfgsMark → ⊥ = λ k. omega arith in
     let o = r.gradient.memory in
-    let t = both _ _ (denied r.model.limited (λ e. e, λ e. e)) (both _ _ (at_most o 16) (both _ _ (denied _ (equal r.model.memory o)) (last-at-most r.model.pairs.count o))) in
+    let t = both _ _ (denied r.model.limited (λ e. e, λ e. e)) (both _ _ (at-most o 16) (both _ _ (denied _ (equal r.model.memory o)) (last-at-most r.model.pairs.count o))) in
     rw (ne_eqb r.job bfgsMark other) (
       λ e. let (l, (m, (c, k))) = t.0 e in record { dense = λ j. absurd (other j); limited = λ j. l; most = λ j. m; copy = λ j. c; pairs = λ j. k },
       λ p. t.1 (p.limited i, (p.most i, (p.copy i, p.pairs i))),
@@ -219,7 +219,7 @@ pub record DescentPart (r : Record) : Type 0 where
 
 allowances : (r : Record) → (validOptionsOf r ≡ true) ↔ ((r.limits.iter ≤ 1000000) × ((r.limits.fevals ≡ noLimit) ⊎ (r.limits.fevals ≤ 1000000)))
 unfolding validOptionsOf
-allowances r = both _ _ (at_most r.limits.iter 1000000) (either _ _ (equal r.limits.fevals noLimit) (last-at-most r.limits.fevals 1000000))
+allowances r = both _ _ (at-most r.limits.iter 1000000) (either _ _ (equal r.limits.fevals noLimit) (last-at-most r.limits.fevals 1000000))
 
 pub descent-part : (r : Record) → Descends r → (validDescentOf r ≡ true) ↔ DescentPart r
 unfolding validDescentOf
@@ -228,10 +228,10 @@ descent-part r j =
     let t =
     both _ _ (some r.n)
     (both _ _ (some q.phase)
-    (both _ _ (at_most q.phase 12)
+    (both _ _ (at-most q.phase 12)
     (both _ _ (denied _ (ending-part q))
-    (both _ _ (at_most q.rounds 40000000000)
-    (both _ _ (at_most q.diff.at r.n) (both _ _ (denied _ (allowances r)) (both _ _ (denied _ (model-part r j)) (search-part r)))))))) in (
+    (both _ _ (at-most q.rounds 40000000000)
+    (both _ _ (at-most q.diff.at r.n) (both _ _ (denied _ (allowances r)) (both _ _ (denied _ (model-part r j)) (search-part r)))))))) in (
       λ e.
           let (n, (l, (h, (y, (k, (a, (o, (m, s)))))))) = t.0 e in
           record { some-n = n; phase-low = l; phase-high = h; ending = y; rounds = k; at = a; iter = o.0; fevals = o.1; model = m; search = s },
@@ -252,13 +252,13 @@ by-job r =
     (cond (eqb r.job searchMark) (validSearchOf r)
     (cond (gradientJobOf r.job) (validDescentOf r) (cond (eqb r.job differencesMark) (leb r.diff.at r.n) false)))
 
-pub whole : (r : Record) → (valid_of r ≡ true) ↔ (Common r × (by-job r ≡ true))
-unfolding valid_of
+pub whole : (r : Record) → (validOf r ≡ true) ↔ (Common r × (by-job r ≡ true))
+unfolding validOf
 whole r =
     let t =
-    both _ _ (at_most r.n 16)
-    (both _ _ (at_most r.accepted 40000000000)
-    (both _ _ (at_most r.counts.fevals 40000000000) (both {B = by-job r ≡ true} _ _ (at_most r.counts.gevals 40000000000) (λ e. e, λ e. e)))) in (
+    both _ _ (at-most r.n 16)
+    (both _ _ (at-most r.accepted 40000000000)
+    (both _ _ (at-most r.counts.fevals 40000000000) (both {B = by-job r ≡ true} _ _ (at-most r.counts.gevals 40000000000) (λ e. e, λ e. e)))) in (
       λ e. let (n, (a, (f, (g, j)))) = t.0 e in (record { few = n; accepted = a; fevals = f; gevals = g }, j),
       λ p. t.1 (p.0.few, (p.0.accepted, (p.0.fevals, (p.0.gevals, p.1)))),
     )

@@ -101,8 +101,8 @@ abbrev pub lastPhase : ℕ
 lastPhase = 11
 
 -- what the start of a simplex fit fixed
-abbrev pub fixed_of : Record → Fixed
-fixed_of r = record { n = r.n; options = r.options; iter = r.limits.iter; fevals = r.limits.fevals }
+abbrev pub fixedOf : Record → Fixed
+fixedOf r = record { n = r.n; options = r.options; iter = r.limits.iter; fevals = r.limits.fevals }
 
 -- what the start of a search fixed
 abbrev pub searchFixedOf : Record → linesearchFixed.Fixed
@@ -184,9 +184,9 @@ validDescentOf r =
 
 -- Refusal 1, for the parts that are there: "The record has n above 16 (or 0, other than for differences), a position above n, .. an option past 2's limits, an unknown mark
 -- or any count above 4·10^10." A part that the job does not use is not looked at.
-unfoldable pub valid_of : Record → Bool
+unfoldable pub validOf : Record → Bool
 unfolding validSimplexOf validSearchOf validDescentOf
-valid_of r =
+validOf r =
     cond (ltb 16 r.n) false
     (cond (ltb most r.accepted) false
     (cond (ltb most r.counts.fevals) false

@@ -2,7 +2,7 @@
 -- max_evals, an option past 2's limits, an unknown mark or any count above 4·10^10." Of a record the parts that its job uses count. Definitions and statements only.
 use Rattle.std.specs.Prelude.{ℕ, ◌≤◌, ◌<◌, ◌≡◌, true, false, ◌⊎◌, ◌↔◌, List, [], ◌∷◌}
 use Rattle.optim_record.specs.declared.Record.{Record}
-use Rattle.optim_record.specs.Record.{simplexMark, bfgsMark, lbfgsMark, searchMark, differencesMark, valid_of}
+use Rattle.optim_record.specs.Record.{simplexMark, bfgsMark, lbfgsMark, searchMark, differencesMark, validOf}
 
 -- ---- the parts that a job uses
 
@@ -98,4 +98,4 @@ pub record InRange (r : Record) : Type 0 where
 
 -- "Refusal 1 refuses exactly 01's list and nothing more": of every record, forged ones too
 abbrev pub RefusesExactly : Type 0
-RefusesExactly = (r : Record) → (valid_of r ≡ true) ↔ InRange r
+RefusesExactly = (r : Record) → (validOf r ≡ true) ↔ InRange r

@@ -2,7 +2,7 @@
 mod blanks;
 
 ghost use Rattle.std.specs.Prelude.{◌≡◌};
-ghost use Rattle.optim_record.specs.Record.{gradientJobOf, validSimplexOf, validSearchPartOf, validSearchOf, knownRefusalOf, validEndingOf, validOptionsOf, validModelOf, validDescentOf, valid_of};
+ghost use Rattle.optim_record.specs.Record.{gradientJobOf, validSimplexOf, validSearchPartOf, validSearchOf, knownRefusalOf, validEndingOf, validOptionsOf, validModelOf, validDescentOf, validOf};
 
 pub use blanks::{blank, idle, no_gradient_options, no_options, wolfe_options};
 use linesearch_moves::FAILED;
@@ -275,7 +275,7 @@ fn valid_descent(r: Record) -> bool
 
 // Refusal 1: whether the record is in range.
 pub fn valid(r: Record) -> bool
-    ensures { result ≡ valid_of r }
+    ensures { result ≡ validOf r }
 {
     let counts = r.counts;
     let diff = r.diff;

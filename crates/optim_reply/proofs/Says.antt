@@ -11,12 +11,12 @@ use Rattle.optim_record.specs.declared.Record.{Record}
 use Rattle.optim_record.specs.declared.Answered.{Answered}
 use Rattle.optim_record.specs.Record.{outcomeOf, simplexMark, searchMark, lastAsking, searchFixedOf, gradientFixedOf, gradientJobOf}
 use Rattle.optim_reply.specs.declared.Spoken.{Spoken}
-use Rattle.optim_reply.specs.Standing.{result_of, standingSimplexOf, searchResultOf, standingSearchOf, descentResultOf, standingDescentOf, standingDifferencesOf, standingOf}
+use Rattle.optim_reply.specs.Standing.{resultOf, standingSimplexOf, searchResultOf, standingSearchOf, descentResultOf, standingDescentOf, standingDifferencesOf, standingOf}
 use Rattle.optim_reply.specs.Spoken.{replyWith, simplexSpokenOf, searchSpokenOf, descentSpokenOf, differencesSpokenOf, spokenOf, spokenFrom, spokenBy, spokenIn}
 
 module _ (r : Record) where
   pub simplex-says : replyWith (simplexSpokenOf r.accepted r.counts r.simplex.phase r.simplex.rounds r.simplex.x r.simplex.best) r ≡ standingSimplexOf r
-  unfolding replyWith replyOf simplexSpokenOf standingSimplexOf result_of
+  unfolding replyWith replyOf simplexSpokenOf standingSimplexOf resultOf
   simplex-says = by (leb r.simplex.phase lastAsking) refl (eqb r.simplex.phase notFinite) refl
     where
       by : (b : Bool) → leb r.simplex.phase lastAsking ≡ b → (c : Bool) → eqb r.simplex.phase notFinite ≡ c

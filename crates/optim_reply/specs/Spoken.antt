@@ -37,12 +37,12 @@ abbrev pub refusalOf : ℕ → ℕ → Spoken
 refusalOf number detail = record { said = Refused number detail; x = none; g = none }
 
 -- the question after `accepted` answers
-abbrev pub asked_of : ℕ → Kind → List Float → Spoken
-asked_of accepted k x = record { said = Ask (accepted + 1) k; x = x; g = none }
+abbrev pub askedOf : ℕ → Kind → List Float → Spoken
+askedOf accepted k x = record { said = Ask (accepted + 1) k; x = x; g = none }
 
 -- a simplex fit
-abbrev pub ended_of : Counts → ℕ → ℕ → Vertex → Spoken
-ended_of c phase rounds best =
+abbrev pub endedOf : Counts → ℕ → ℕ → Vertex → Spoken
+endedOf c phase rounds best =
     record {
       said = Fitted (record { reason = terminationOf phase; converged = eqb phase byTolerance; iterations = rounds; fevals = c.fevals; gevals = c.gevals; f = best.f });
       x = best.x;
@@ -51,7 +51,7 @@ ended_of c phase rounds best =
 
 unfoldable pub simplexSpokenOf : ℕ → Counts → ℕ → ℕ → List Float → Vertex → Spoken
 simplexSpokenOf accepted c phase rounds x best =
-    cond (leb phase lastAsking) (asked_of accepted Value x) (cond (eqb phase notFinite) (refusalOf 20 0) (ended_of c phase rounds best))
+    cond (leb phase lastAsking) (askedOf accepted Value x) (cond (eqb phase notFinite) (refusalOf 20 0) (endedOf c phase rounds best))
 
 -- a search
 abbrev pub foundOf : Search → Spoken
@@ -66,7 +66,7 @@ unfoldable pub searchSpokenOf : ℕ → linesearchFixed.Fixed → Line → Searc
 searchSpokenOf accepted fixed l s =
     let p = linesearch.probeOf fixed l s in
     cond (ltb linesearch.asksDifference s.phase) (foundOf s)
-    (cond (eqb s.phase linesearch.asksGradient) (asked_of accepted Gradient p) (asked_of accepted Value p))
+    (cond (eqb s.phase linesearch.asksGradient) (askedOf accepted Gradient p) (askedOf accepted Value p))
 
 -- a gradient fit
 abbrev pub descentEndedOf : Counts → ℕ → ℕ → Line → Spoken
@@ -80,13 +80,13 @@ descentEndedOf c phase rounds l =
 unfoldable pub descentSpokenOf : ℕ → Counts → quasinewtonFixed.Fixed → Descent → Spoken
 descentSpokenOf accepted c fixed d =
     let p = quasinewton.probeOf fixed d in
-    cond (quasinewton.asksOf d) (cond (quasinewton.gradientDueOf d) (asked_of accepted Gradient p) (asked_of accepted Value p))
+    cond (quasinewton.asksOf d) (cond (quasinewton.gradientDueOf d) (askedOf accepted Gradient p) (askedOf accepted Value p))
     (cond (eqb d.phase quasinewton.byRefusal) (refusalOf d.number d.detail) (descentEndedOf c d.phase d.rounds d.line))
 
 -- differences
 unfoldable pub differencesSpokenOf : ℕ → ℕ → Differences → Spoken
 differencesSpokenOf accepted n e =
-    cond (eqb e.at n) (record { said = Differenced; x = e.x; g = e.g }) (asked_of accepted Value (probeOf e))
+    cond (eqb e.at n) (record { said = Differenced; x = e.x; g = e.g }) (askedOf accepted Value (probeOf e))
 
 -- all that is said of a record: what stands in it, with sixteen places of its point and its gradient
 unfoldable pub spokenOf : Record → Spoken

@@ -42,9 +42,9 @@ terminationOf phase =
     (cond (eqb phase bySimplexIterations) MaxIterations MaxFevals))
 
 -- the result of a simplex fit that has ended
-unfoldable pub result_of : Record → Result
+unfoldable pub resultOf : Record → Result
 unfolding terminationOf
-result_of r =
+resultOf r =
     record {
       reason = terminationOf r.simplex.phase;
       converged = eqb r.simplex.phase byTolerance;
@@ -56,11 +56,11 @@ result_of r =
     }
 
 abbrev pub endsOf : Record → Reply × Record
-endsOf r = (ended (fitted (result_of r)), r)
+endsOf r = (ended (fitted (resultOf r)), r)
 
 -- what stands in a simplex fit: its question, refusal 20, or its result
 unfoldable pub standingSimplexOf : Record → Reply × Record
-unfolding result_of
+unfolding resultOf
 standingSimplexOf r =
     cond (leb r.simplex.phase lastAsking) (asksOf r Value r.simplex.x)
     (cond (eqb r.simplex.phase notFinite) (refusedOf r 20 0) (endsOf r))
@@ -91,14 +91,14 @@ unfoldable pub descentTerminationOf : ℕ → Termination
 descentTerminationOf phase =
     cond (eqb phase quasinewton.byGradient) GradientTolerance
     (cond (eqb phase quasinewton.byFunction) FunctionTolerance
-    (cond (eqb phase quasinewton.by_step) StepTolerance
+    (cond (eqb phase quasinewton.byStep) StepTolerance
     (cond (eqb phase quasinewton.byIterations) MaxIterations
     (cond (eqb phase quasinewton.byFevals) MaxFevals
     (cond (eqb phase quasinewton.bySearch) LineSearchFailed GradientFailed)))))
 
 -- GradientTolerance, FunctionTolerance or StepTolerance
 unfoldable pub descentConvergedOf : ℕ → Bool
-descentConvergedOf phase = cond (ltb phase quasinewton.byGradient) false (leb phase quasinewton.by_step)
+descentConvergedOf phase = cond (ltb phase quasinewton.byGradient) false (leb phase quasinewton.byStep)
 
 -- the result of a gradient fit that has ended
 unfoldable pub descentResultOf : Record → Result

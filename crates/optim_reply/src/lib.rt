@@ -1,8 +1,8 @@
 // What stands in a record: its open question, or its outcome. All of it is a function of the record.
 ghost use Rattle.std.specs.Prelude.{◌≡◌, ◌≤◌};
-ghost use Rattle.optim_record.specs.Record.{outcomeOf, fixed_of, searchFixedOf, gradientFixedOf, Stands};
+ghost use Rattle.optim_record.specs.Record.{outcomeOf, fixedOf, searchFixedOf, gradientFixedOf, Stands};
 ghost use Rattle.optim_reply.specs.Standing.{overOf, gradientDueOf, terminationOf, descentTerminationOf, descentConvergedOf};
-ghost use Rattle.optim_reply.specs.Spoken.{replyWith, refusalOf, asked_of, ended_of, simplexSpokenOf, foundOf, searchSpokenOf, descentEndedOf, descentSpokenOf, differencesSpokenOf, spokenOf, spokenIn};
+ghost use Rattle.optim_reply.specs.Spoken.{replyWith, refusalOf, askedOf, endedOf, simplexSpokenOf, foundOf, searchSpokenOf, descentEndedOf, descentSpokenOf, differencesSpokenOf, spokenOf, spokenIn};
 
 use linesearch::{Line, Search};
 use linesearch_moves::{ASKS_DIFFERENCE, ASKS_GRADIENT, FOUND};
@@ -41,7 +41,7 @@ pub fn refused(number: u64, detail: u64) -> Spoken
 
 // What the start of a simplex fit fixed.
 pub fn fixed(r: Record) -> Fixed
-    ensures { result ≡ fixed_of r }
+    ensures { result ≡ fixedOf r }
 {
     let limits = r.limits;
     let options = r.options;
@@ -134,7 +134,7 @@ fn termination(phase: u64) -> Termination
 // The question of a kind at x, after `accepted` answers.
 pub fn asks(accepted: u64, kind: Kind, x: [f64; 16]) -> Spoken
     requires { accepted ≤ 40000000001 }
-    ensures { result ≡ asked_of accepted kind x }
+    ensures { result ≡ askedOf accepted kind x }
 {
     let g = [0.0; 16];
     Spoken {
@@ -146,7 +146,7 @@ pub fn asks(accepted: u64, kind: Kind, x: [f64; 16]) -> Spoken
 
 // The result of a simplex fit.
 fn ends(counts: Counts, phase: u64, rounds: u64, best: Vertex) -> Spoken
-    ensures { result ≡ ended_of counts phase rounds best }
+    ensures { result ≡ endedOf counts phase rounds best }
 {
     let x = best.x;
     let g = [0.0; 16];

@@ -11,7 +11,7 @@ use lib.Ieee.{Float}
 use borrow.Author.Tests.{eqb-true, eqb-false, ne_eqb}
 use Rattle.quasinewton_model.specs.Step.{ModelInRange}
 use Rattle.optim_record.specs.declared.Record.{Record}
-use Rattle.optim_record.specs.Record.{simplexMark, bfgsMark, lbfgsMark, searchMark, differencesMark, gradientJobOf, valid_of, Other, Ranges, Open, Stands}
+use Rattle.optim_record.specs.Record.{simplexMark, bfgsMark, lbfgsMark, searchMark, differencesMark, gradientJobOf, validOf, Other, Ranges, Open, Stands}
 use Rattle.optim_record.specs.Refusal1.{OneOf, InRange}
 use Rattle.optim_record.proofs.Refusal1.{in-range}
 use Rattle.optim_reply.specs.Standing.{overOf, gradientDueOf}
@@ -49,7 +49,7 @@ other-job r h o = go h.marks.job
     go (inr (inr (inr (inl j)))) = absurd (o.search j)
     go (inr (inr (inr (inr (inl j))))) = j
 
-pub ranges : (r : Record) → valid_of r ≡ true → Ranges r
+pub ranges : (r : Record) → validOf r ≡ true → Ranges r
 ranges r e =
     let h = in-range r e in
     record {
@@ -64,9 +64,9 @@ ranges r e =
     }
 
 -- the record of a job that has not ended has a coordinate to come
-pub open_of : (r : Record) → Ranges r → overOf r ≡ false → Open r
+pub open-of : (r : Record) → Ranges r → overOf r ≡ false → Open r
 unfolding overOf
-open_of r h e = record { next = λ d. less r.diff.at r.n (h.coordinate d) (eqb-false _ _ (rw (ne_eqb _ _ d.simplex, ne_eqb _ _ d.search, d.gradient) at e)) }
+open-of r h e = record { next = λ d. less r.diff.at r.n (h.coordinate d) (eqb-false _ _ (rw (ne_eqb _ _ d.simplex, ne_eqb _ _ d.search, d.gradient) at e)) }
   where
     less : (a n : ℕ) → a ≤ n → (a ≡ n → ⊥) → a < n
     less a n l d = omega arith
@@ -75,9 +75,9 @@ pub stands : (r : Record) → Ranges r → Stands r
 stands r h = record { few = h.few; numbers = omega (arith, h.numbers); coordinate = h.coordinate }
 
 -- an answer that suits has as many words as were asked for
-pub one_word : (r : Record) (kind : ℕ) (words : List Float) → gradientDueOf r ≡ false → suitsOf r kind (length words) ≡ true → length words ≡ 1
+pub one-word : (r : Record) (kind : ℕ) (words : List Float) → gradientDueOf r ≡ false → suitsOf r kind (length words) ≡ true → length words ≡ 1
 unfolding suitsOf
-one_word r kind words g e = eqb-true (length words) 1 (passed (not (eqb kind 86)) (eqb (length words) 1) (rw g at e)).1
+one-word r kind words g e = eqb-true (length words) 1 (passed (not (eqb kind 86)) (eqb (length words) 1) (rw g at e)).1
 
 pub n-words : (r : Record) (kind : ℕ) (words : List Float) → gradientDueOf r ≡ true → suitsOf r kind (length words) ≡ true → length words ≡ r.n
 unfolding suitsOf

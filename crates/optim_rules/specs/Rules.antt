@@ -3,7 +3,7 @@ use Rattle.std.specs.Prelude.{ℕ, ◌+◌, Bool, false, cond, not, eqb}
 use Rattle.protocol.specs.declared.Kind.TheVariants.{Value, Gradient}
 use Rattle.protocol.specs.Protocol.{letter}
 use Rattle.optim_record.specs.declared.Record.{Record}
-use Rattle.optim_record.specs.Record.{valid_of}
+use Rattle.optim_record.specs.Record.{validOf}
 use Rattle.optim_reply.specs.Standing.{overOf, gradientDueOf}
 
 -- "An answer carrying the number last accepted is a repeat" .. "Before the first acceptance no number is a repeat."
@@ -19,7 +19,7 @@ suitsOf r kind count =
 -- the number of the refusal that an answer meets, 0 for none
 unfoldable pub meetsOf : Record → ℕ → ℕ → ℕ → ℕ
 meetsOf r number kind count =
-    cond (not (valid_of r)) 1
+    cond (not (validOf r)) 1
     (cond (repeatsOf r.accepted number) 0
     (cond (overOf r) 15
     (cond (not (eqb number (r.accepted + 1))) 16

@@ -13,19 +13,19 @@ use Rattle.protocol.specs.declared.GradientOptions.{GradientOptions}
 use Rattle.protocol.specs.declared.Allowances.{Allowances}
 use Rattle.objective.specs.Step.{begunOf}
 use Rattle.linesearch_trials.specs.declared.Line.{Line}
-use Rattle.neldermead.specs.Step.{start_of}
+use Rattle.neldermead.specs.Step.{startOf}
 use Rattle.quasinewton.specs.Step as quasinewton
 use Rattle.optim_record.specs.Record.{searchFixedOf, gradientJobOf, Stands}
-use Rattle.optim_reply.specs.Spoken.{asked_of, simplexSpokenOf, searchSpokenOf, descentSpokenOf, differencesSpokenOf, spokenOf}
+use Rattle.optim_reply.specs.Spoken.{askedOf, simplexSpokenOf, searchSpokenOf, descentSpokenOf, differencesSpokenOf, spokenOf}
 use Rattle.optim_first_record.specs.Starts.{begunRecordOf, simplexRecordOf, searchRecordOf, gradientMarkOf, gradientRecordOf}
 
-pub simplex-speaks : (x : List Float) (n : ℕ) (o : SimplexOptions) (a : Allowances) → asked_of (simplexRecordOf x n o a).accepted Value x ≡ spokenOf (simplexRecordOf x n o a)
-unfolding spokenOf simplexSpokenOf simplexRecordOf start_of
+pub simplex-speaks : (x : List Float) (n : ℕ) (o : SimplexOptions) (a : Allowances) → askedOf (simplexRecordOf x n o a).accepted Value x ≡ spokenOf (simplexRecordOf x n o a)
+unfolding spokenOf simplexSpokenOf simplexRecordOf startOf
 simplex-speaks x n o a = refl
 
 pub gradient-speaks : (x : List Float) (n : ℕ) (o : GradientOptions) (a : Allowances) (limited : Bool)
-    → asked_of (gradientRecordOf x n o a limited).accepted Value x ≡ spokenOf (gradientRecordOf x n o a limited)
-unfolding spokenOf descentSpokenOf gradientRecordOf gradientMarkOf gradientJobOf quasinewton.start_of quasinewton.asksOf quasinewton.gradientDueOf quasinewton.probeOf
+    → askedOf (gradientRecordOf x n o a limited).accepted Value x ≡ spokenOf (gradientRecordOf x n o a limited)
+unfolding spokenOf descentSpokenOf gradientRecordOf gradientMarkOf gradientJobOf quasinewton.startOf quasinewton.asksOf quasinewton.gradientDueOf quasinewton.probeOf
 gradient-speaks x n o a true = refl
 gradient-speaks x n o a false = refl
 

@@ -1,6 +1,6 @@
 // The one form of a record, stored in lists that are lent.
 ghost use Rattle.std.specs.Prelude.{◌≡◌};
-ghost use Rattle.optim_lists.specs.Lists.{lists, flagOf, marksOf, numbersOf, points_of, values_of, steps_of, changesOf, factorsOf, lists_of};
+ghost use Rattle.optim_lists.specs.Lists.{lists, flagOf, marksOf, numbersOf, pointsOf, valuesOf, stepsOf, changesOf, factorsOf, listsOf};
 
 use linesearch::Search;
 use linesearch_trials::Line;
@@ -22,7 +22,7 @@ fn flag(b: bool) -> u64
 
 // The vertices' points.
 fn points_of(v: [Vertex; 17]) -> [[f64; 16]; 17]
-    ensures { result ≡ points_of v }
+    ensures { result ≡ pointsOf v }
 {
     let zeros = [0.0; 16];
     let mut xs = [zeros; 17];
@@ -38,7 +38,7 @@ fn points_of(v: [Vertex; 17]) -> [[f64; 16]; 17]
 
 // The value at each.
 fn values_of(v: [Vertex; 17]) -> [f64; 17]
-    ensures { result ≡ values_of v }
+    ensures { result ≡ valuesOf v }
 {
     let mut fs = [0.0; 17];
     let mut i: usize = 0;
@@ -52,7 +52,7 @@ fn values_of(v: [Vertex; 17]) -> [f64; 17]
 
 // The pairs' steps.
 fn steps_of(p: [Pair; 16]) -> [[f64; 16]; 16]
-    ensures { result ≡ steps_of p }
+    ensures { result ≡ stepsOf p }
 {
     let zeros = [0.0; 16];
     let mut ss = [zeros; 16];
@@ -189,8 +189,8 @@ fn store_simplex(
     ensures best_after { best.new ≡ s.best.x }
     ensures centroid_after { centroid.new ≡ s.cen }
     ensures reflected_after { reflected.new ≡ s.refl.x }
-    ensures points_after { points.new ≡ points_of s.v }
-    ensures values_after { values.new ≡ values_of s.v }
+    ensures points_after { points.new ≡ pointsOf s.v }
+    ensures values_after { values.new ≡ valuesOf s.v }
 {
     let x = s.x;
     *sx = x;
@@ -260,7 +260,7 @@ fn store_model(
     q: Model,
 )
     ensures h_after { h.new ≡ q.dense.h }
-    ensures steps_after { steps.new ≡ steps_of q.pairs.pairs }
+    ensures steps_after { steps.new ≡ stepsOf q.pairs.pairs }
     ensures changes_after { changes.new ≡ changesOf q.pairs.pairs }
     ensures factors_after { factors.new ≡ factorsOf q.pairs.pairs }
 {
@@ -302,7 +302,7 @@ pub fn store(
     factors: &mut [f64; 16],
     r: Record,
 )
-    ensures { lists m.new w.new dx.new dg.new sx.new best.new centroid.new reflected.new points.new values.new lx.new lg.new ld.new tx.new tg.new ex.new eg.new ix.new ig.new h.new steps.new changes.new factors.new ≡ lists_of r }
+    ensures { lists m.new w.new dx.new dg.new sx.new best.new centroid.new reflected.new points.new values.new lx.new lg.new ld.new tx.new tg.new ex.new eg.new ix.new ig.new h.new steps.new changes.new factors.new ≡ listsOf r }
 {
     let ms = marks(r);
     *m = ms;

@@ -13,7 +13,7 @@ use Rattle.protocol.specs.declared.GradientOptions.{GradientOptions}
 use Rattle.protocol.specs.Claim.{limit}
 use Rattle.protocol.specs.Ask.{Ask, finish, query}
 use Rattle.protocol.specs.Rounds.{Ending, atHead, stops, fails, Verdict, goOn, stop, restart, FitLimits, reached}
-use Rattle.protocol.specs.Bounds.{Keeps, of_both, BoundLaws}
+use Rattle.protocol.specs.Bounds.{Keeps, ofBoth, BoundLaws}
 use Rattle.quasinewton_theory.specs.Algorithm.{GradientPosition, tests, quasiNewton}
 use Rattle.quasinewton_theory.specs.Counts.{withGradients, withoutGradients}
 use Rattle.quasinewton_theory.specs.Follows.{allowed, headed, settled}
@@ -46,11 +46,11 @@ bounding κ b = boundingBy κ b b.options.gradients refl
 -- ---- it is low
 
 -- 33*(1+10^9) values, 1+10^9 gradients
-abbrev pub most_of : Kind → ℕ
-most_of Value = 33000000033
-most_of Gradient = 1000000001
+abbrev pub mostOf : Kind → ℕ
+mostOf Value = 33000000033
+mostOf Gradient = 1000000001
 
-pub bound-low : (κ : Kind) (b : Budget) → b.rounds ≤ 1000000 → b.options.wolfe.evals ≤ 1000 → length b.x0 ≤ 16 → (bounding κ b).bound ≤ most_of κ
+pub bound-low : (κ : Kind) (b : Budget) → b.rounds ≤ 1000000 → b.options.wolfe.evals ≤ 1000 → length b.x0 ≤ 16 → (bounding κ b).bound ≤ mostOf κ
 bound-low κ b i e n = go κ b.options.gradients refl
   where
     trials : 1 + b.rounds * b.options.wolfe.evals ≤ 1000000001
@@ -62,7 +62,7 @@ bound-low κ b i e n = go κ b.options.gradients refl
     per : 1 + 2 * length b.x0 ≤ 33
     per = omega arith
 
-    go : (κ : Kind) (g : Bool) (j : b.options.gradients ≡ g) → (boundingBy κ b g j).bound ≤ most_of κ
+    go : (κ : Kind) (g : Bool) (j : b.options.gradients ≡ g) → (boundingBy κ b g j).bound ≤ mostOf κ
     go Value true j = omega (arith, trials)
     go Gradient true j = trials
     go Value false j = le_trans (mul-le-mul_right (1 + b.rounds * b.options.wolfe.evals) per) (mul-le-mul_left 33 trials)
@@ -74,18 +74,18 @@ module _ (κ : Kind) (b : Budget) where
   abbrev pub Within : ℕ → Ask (Ending GradientPosition) → Type 0
   Within k m = Keeps κ (bounding κ b).bound (bounding κ b).laws.Head k m
 
-  pub settled-keeps : (v g : ℕ) (m : Ask (Ending GradientPosition)) → Within (of_both κ v g) m → Within (of_both κ v g) (settled b.limits v m)
+  pub settled-keeps : (v g : ℕ) (m : Ask (Ending GradientPosition)) → Within (ofBoth κ v g) m → Within (ofBoth κ v g) (settled b.limits v m)
   settled-keeps v g (query j x c) h = h
   settled-keeps v g (finish (stops y p)) h = h
   settled-keeps v g (finish (fails k d)) h = h
   settled-keeps v g (finish (atHead p)) h = go (tests p) refl
     where
-      both : (a c : Bool) → reached p.iterations b.limits.iter ≡ a → reached v b.limits.fevals ≡ c → Within (of_both κ v g) (allowed a c p)
+      both : (a c : Bool) → reached p.iterations b.limits.iter ≡ a → reached v b.limits.fevals ≡ c → Within (ofBoth κ v g) (allowed a c p)
       both true c i j = tt
       both false true i j = tt
-      both false false i j = (bounding κ b).laws.round_keeps v g p h i j
+      both false false i j = (bounding κ b).laws.round-keeps v g p h i j
 
-      go : (o : Verdict GradientPosition) → tests p ≡ o → Within (of_both κ v g) (headed b.limits v o p)
+      go : (o : Verdict GradientPosition) → tests p ≡ o → Within (ofBoth κ v g) (headed b.limits v o p)
       go goOn e = both (reached p.iterations b.limits.iter) (reached v b.limits.fevals) refl refl
       go (stop y) e = tt
-      go (restart m) e = (bounding κ b).laws.restart-keeps (of_both κ v g) p m h e
+      go (restart m) e = (bounding κ b).laws.restart-keeps (ofBoth κ v g) p m h e

@@ -12,11 +12,11 @@ use Rattle.vector.specs.Lists.{first}
 use Rattle.vector.specs.Points.{fromSliceOf}
 use Rattle.protocol.specs.declared.Kind.{Kind}
 use Rattle.protocol.specs.declared.Kind.TheVariants.{Value, Gradient}
-use Rattle.protocol.specs.Protocol.{read_of}
+use Rattle.protocol.specs.Protocol.{readOf}
 use Rattle.protocol.specs.Dialogue.{ofKind}
 use Rattle.protocol.specs.Claim.{Limit, limit, unlimited}
 use Rattle.protocol.specs.Ask.{query}
-use Rattle.protocol.specs.Bounds.{of_both}
+use Rattle.protocol.specs.Bounds.{ofBoth}
 use Rattle.protocol.proofs.Bounds as bounds
 use Rattle.linesearch_trials.specs.declared.Evaluation.{Evaluation}
 use Rattle.linesearch.specs.Step as linesearch
@@ -25,17 +25,17 @@ use Rattle.quasinewton_model.specs.Step.{limitedUpdateOf, denseUpdateOf, updateO
 use Rattle.quasinewton_record.specs.declared.Descent.{Descent}
 use Rattle.quasinewton_record.specs.declared.Fixed.{Fixed}
 use Rattle.quasinewton.specs.Step as step
-use Rattle.quasinewton.specs.Step.{probeOf, asksOf, stores_of, smallDecreaseOf, smallStepOf, Moved, storedOf, succeededOf, settled_of, toldOf, toldGradientOf}
+use Rattle.quasinewton.specs.Step.{probeOf, asksOf, storesOf, smallDecreaseOf, smallStepOf, Moved, storedOf, succeededOf, settledOf, toldOf, toldGradientOf}
 use Rattle.vector.specs.Points.{differenceOf, allFiniteOf}
-use Rattle.quasinewton_theory.specs.Follows.{toDo, wantsGradient, kind_of, heardOf, settled, AllowsFevals, GradientAllows, DescentShaped}
+use Rattle.quasinewton_theory.specs.Follows.{toDo, wantsGradient, kindOf, heardOf, settled, AllowsFevals, GradientAllows, DescentShaped}
 use Rattle.quasinewton_theory.proofs.Follows.{gradient-follows}
 use Rattle.optim_record.specs.declared.Record.{Record}
 use Rattle.optim_record.specs.Record.{noLimit, gradientFixedOf}
 use Rattle.optim_reply.specs.Standing.{gradientDueOf}
 use Rattle.optim.specs.Answer.{steppedOf, gradedOf}
-use Rattle.optim_theory.proofs.Refusals.{Named, settled-named, told_named, told-gradient-named}
+use Rattle.optim_theory.proofs.Refusals.{Named, settled-named, told-named, told-gradient-named}
 use Rattle.optim_theory.proofs.Replies.{no-simplex, no-search}
-use Rattle.optim_theory.proofs.DescentRelated.{rest_of, ModelMarked, Sound, Low, asks, due-as}
+use Rattle.optim_theory.proofs.DescentRelated.{restOf, ModelMarked, Sound, Low, asks, due-as}
 use Rattle.optim_theory.proofs.DescentBounds.{Budget, bounding, bound-low, Within, settled-keeps}
 
 -- ---- the model of a record that has gone on
@@ -56,7 +56,7 @@ updated-alike m s y n = go m.limited
 
 stored-alike : (fixed : Fixed) (q : Descent) (m : Model) (t : Evaluation) → Alike m (storedOf fixed q m t)
 unfolding storedOf
-stored-alike fixed q m t = go (stores_of s y n)
+stored-alike fixed q m t = go (storesOf s y n)
   where
     n : ℕ
     n = fixed.n
@@ -71,8 +71,8 @@ stored-alike fixed q m t = go (stores_of s y n)
     go true = updated-alike m s y n
     go false = record { limited = refl; memory = refl }
 
-still_marked : (job k : ℕ) (m z : Model) → ModelMarked job k m → Alike m z → ModelMarked job k z
-still_marked job k m z h a = record { dense = λ j. a.limited ∙ h.dense j; limited = λ j. a.limited ∙ h.limited j; memory = λ j. a.memory ∙ h.memory j }
+still-marked : (job k : ℕ) (m z : Model) → ModelMarked job k m → Alike m z → ModelMarked job k z
+still-marked job k m z h a = record { dense = λ j. a.limited ∙ h.dense j; limited = λ j. a.limited ∙ h.limited j; memory = λ j. a.memory ∙ h.memory j }
 
 -- it is the model as it was, or with one step stored
 record Models (P : Model → Type 0) (w : Moved) : Type 0 where
@@ -90,8 +90,8 @@ succeeded-model P fixed q m t v h k =
     (either P (smallDecreaseOf o.ftol q.line.f t.trial.value) (record { holds = k })
     (either P (smallStepOf o.xtol q.line.x t.x fixed.n) (record { holds = k }) (record { holds = k })))
 
-settled-model : (P : Model → Type 0) (fixed : Fixed) (q : Descent) (m : Model) (v : ℕ) → P m → P (storedOf fixed q m q.search.best) → Models P (settled_of fixed q m v)
-unfolding settled_of
+settled-model : (P : Model → Type 0) (fixed : Fixed) (q : Descent) (m : Model) (v : ℕ) → P m → P (storedOf fixed q m q.search.best) → Models P (settledOf fixed q m v)
+unfolding settledOf
 settled-model P fixed q m v h k =
     either P (eqb q.phase step.atHead) (record { holds = h })
     (either P (not (eqb q.phase step.searching)) (record { holds = h })
@@ -101,9 +101,9 @@ settled-model P fixed q m v h k =
 heard-named : (fixed : Fixed) → 0 < fixed.n → (q : Descent) (w : List Float) → Named q → Named (heardOf fixed q w)
 heard-named fixed some q w h = go (wantsGradient fixed q)
   where
-    go : (b : Bool) → Named (cond b (toldGradientOf fixed q (fromSliceOf w fixed.n)) (toldOf fixed q (read_of (get_or w 0 nan))))
+    go : (b : Bool) → Named (cond b (toldGradientOf fixed q (fromSliceOf w fixed.n)) (toldOf fixed q (readOf (get_or w 0 nan))))
     go true = told-gradient-named fixed some q (fromSliceOf w fixed.n) h
-    go false = told_named fixed some q (read_of (get_or w 0 nan)) h
+    go false = told-named fixed some q (readOf (get_or w 0 nan)) h
 
 -- ---- the record after the words w of an answer to the open question
 
@@ -120,8 +120,8 @@ pub record Bounded (b : Budget) (r : Record) : Type 0 where
   pub fevals : AsLimit b.limits.fevals r.limits.fevals
   pub evals : b.options.wolfe.evals ≤ 1000
   pub short : length b.x0 ≤ 16
-  pub counts : (κ : Kind) → of_both κ r.counts.fevals r.counts.gevals ≤ (bounding κ b).bound
-  pub keeps : (κ : Kind) → Within κ b (of_both κ r.counts.fevals r.counts.gevals) (rest_of r)
+  pub counts : (κ : Kind) → ofBoth κ r.counts.fevals r.counts.gevals ≤ (bounding κ b).bound
+  pub keeps : (κ : Kind) → Within κ b (ofBoth κ r.counts.fevals r.counts.gevals) (restOf r)
 
 pub low : (b : Budget) (r : Record) → Sound r → Bounded b r → Low r
 low b r S W =
@@ -138,14 +138,14 @@ module _ (r : Record) (S : Sound r) (w : List Float) where
   q = r.descent
 
   abbrev kind : Kind
-  kind = kind_of fixed q
+  kind = kindOf fixed q
 
   abbrev heard : Descent
   heard = heardOf fixed q w
 
   abbrev madeBy : ℕ → ℕ → Descent → Record
   madeBy v g h =
-      let m = settled_of fixed h r.model v in
+      let m = settledOf fixed h r.model v in
       record {
         accepted = r.accepted + 1;
         job = r.job;
@@ -179,7 +179,7 @@ module _ (r : Record) (S : Sound r) (w : List Float) where
   unfolding gradedOf
   graded = rw (no-search r.job S.job)
 
-  stepped : steppedOf r v ≡ madeBy (r.counts.fevals + 1) r.counts.gevals (toldOf fixed q (read_of v))
+  stepped : steppedOf r v ≡ madeBy (r.counts.fevals + 1) r.counts.gevals (toldOf fixed q (readOf v))
   unfolding steppedOf
   stepped = rw (no-simplex r.job S.job, no-search r.job S.job, S.job)
 
@@ -190,13 +190,13 @@ module _ (r : Record) (S : Sound r) (w : List Float) where
       by b = cond b (gradedOf r g) (steppedOf r v)
 
       go : (b : Bool) → by b ≡ madeBy (r.counts.fevals + ofKind Value (cond b Gradient Value)) (r.counts.gevals + ofKind Gradient (cond b Gradient Value))
-          (cond b (toldGradientOf fixed q g) (toldOf fixed q (read_of v)))
+          (cond b (toldGradientOf fixed q g) (toldOf fixed q (readOf v)))
       go true = graded ∙ ap (λ (k : ℕ). madeBy k (r.counts.gevals + 1) (toldGradientOf fixed q g)) (sym (add-zero r.counts.fevals))
-      go false = stepped ∙ ap (λ (k : ℕ). madeBy (r.counts.fevals + 1) k (toldOf fixed q (read_of v))) (sym (add-zero r.counts.gevals))
+      go false = stepped ∙ ap (λ (k : ℕ). madeBy (r.counts.fevals + 1) k (toldOf fixed q (readOf v))) (sym (add-zero r.counts.gevals))
 
-  one_more : (k : Kind) (a v g : ℕ) → a ≡ v + g → a + 1 ≡ v + ofKind Value k + (g + ofKind Gradient k)
-  one_more Value a v g e = omega arith
-  one_more Gradient a v g e = omega arith
+  one-more : (k : Kind) (a v g : ℕ) → a ≡ v + g → a + 1 ≡ v + ofKind Value k + (g + ofKind Gradient k)
+  one-more Value a v g e = omega arith
+  one-more Gradient a v g e = omega arith
 
   heard-shaped : DescentShaped fixed heard
   heard-shaped = (gradient-follows fixed).heard-shaped q w S.shape
@@ -208,13 +208,13 @@ module _ (r : Record) (S : Sound r) (w : List Float) where
       let o = F.settled-zeros heard r.model values heard-shaped S.model (F.heard-zeros q w S.shape S.zeros) S.model-zeros in
       record {
         job = S.job;
-        numbers = one_more kind r.accepted r.counts.fevals r.counts.gevals S.numbers;
+        numbers = one-more kind r.accepted r.counts.fevals r.counts.gevals S.numbers;
         shape = z.0;
         stands = F.settled-stands heard r.model values heard-shaped;
         named = settled-named fixed S.shape.positive heard r.model values (heard-named fixed S.shape.positive q w S.named);
         zeros = o.0;
         model = z.1;
-        marked = still_marked r.job r.gradient.memory r.model _ S.marked
+        marked = still-marked r.job r.gradient.memory r.model _ S.marked
             (settled-model (Alike r.model) fixed heard r.model values (record { limited = refl; memory = refl }) (stored-alike fixed heard r.model heard.search.best)).holds;
         model-zeros = o.1;
         iter = S.iter;
@@ -226,23 +226,23 @@ module _ (r : Record) (S : Sound r) (w : List Float) where
   -- ---- within the bounds
 
   module _ (b : Budget) (W : Bounded b r) (e : asksOf q ≡ true) where
-    room : (κ : Kind) → Within κ b (of_both κ r.counts.fevals r.counts.gevals) (query kind (first r.n (probeOf fixed q)) (λ z. toDo fixed (heardOf fixed q z) r.model))
-    room κ = subst (Within κ b (of_both κ r.counts.fevals r.counts.gevals)) (asks r S e) (W.keeps κ)
+    room : (κ : Kind) → Within κ b (ofBoth κ r.counts.fevals r.counts.gevals) (query kind (first r.n (probeOf fixed q)) (λ z. toDo fixed (heardOf fixed q z) r.model))
+    room κ = subst (Within κ b (ofBoth κ r.counts.fevals r.counts.gevals)) (asks r S e) (W.keeps κ)
 
-    count_low : (κ : Kind) → of_both κ values gradients ≤ (bounding κ b).bound
-    count_low κ = subst (λ (k : ℕ). k ≤ (bounding κ b).bound) (bounds.one_more κ kind r.counts.fevals r.counts.gevals) (room κ).0
+    count-low : (κ : Kind) → ofBoth κ values gradients ≤ (bounding κ b).bound
+    count-low κ = subst (λ (k : ℕ). k ≤ (bounding κ b).bound) (bounds.one-more κ kind r.counts.fevals r.counts.gevals) (room κ).0
 
     allows : GradientAllows fixed b.limits values
     allows = record { iter = b.iter ∙ ap limit W.iter; fevals = by b.limits.fevals W.fevals }
       where
         few : values ≤ 33000000033
-        few = le_trans (count_low Value) (bound-low Value b (omega (arith, W.iter, S.iter)) W.evals W.short)
+        few = le_trans (count-low Value) (bound-low Value b (omega (arith, W.iter, S.iter)) W.evals W.short)
 
         by : (l : Limit) → AsLimit l r.limits.fevals → AllowsFevals l r.limits.fevals values
         by (limit k) h = h
         by unlimited h = omega (arith, h, few)
 
-    pub made-rest : settled b.limits values (toDo fixed heard r.model) ≡ rest_of made
+    pub made-rest : settled b.limits values (toDo fixed heard r.model) ≡ restOf made
     made-rest = (gradient-follows fixed).settles heard r.model b.limits values allows heard-shaped S.model
 
     pub made-within : Bounded b made
@@ -252,8 +252,8 @@ module _ (r : Record) (S : Sound r) (w : List Float) where
           fevals = W.fevals;
           evals = W.evals;
           short = W.short;
-          counts = count_low;
-          keeps = λ κ. subst (Within κ b (of_both κ values gradients)) made-rest
+          counts = count-low;
+          keeps = λ κ. subst (Within κ b (ofBoth κ values gradients)) made-rest
               (settled-keeps κ b values gradients (toDo fixed heard r.model)
-              (subst (λ (k : ℕ). Within κ b k (toDo fixed heard r.model)) (bounds.one_more κ kind r.counts.fevals r.counts.gevals) ((room κ).1 w)));
+              (subst (λ (k : ℕ). Within κ b k (toDo fixed heard r.model)) (bounds.one-more κ kind r.counts.fevals r.counts.gevals) ((room κ).1 w)));
         }

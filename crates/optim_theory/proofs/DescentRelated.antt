@@ -23,11 +23,11 @@ use Rattle.quasinewton_record.specs.declared.Fixed.{Fixed}
 use Rattle.quasinewton.specs.Step as quasinewton
 use Rattle.quasinewton.specs.Step.{searching, byRefusal, probeOf, asksOf}
 use Rattle.quasinewton_theory.specs.Algorithm.{GradientPosition}
-use Rattle.quasinewton_theory.specs.Follows.{position_of, reasonOf, endingOf, toDo, wantsGradient, kind_of, heardOf, DescentShaped, DescentZeroPast, DescentStands}
+use Rattle.quasinewton_theory.specs.Follows.{positionOf, reasonOf, endingOf, toDo, wantsGradient, kindOf, heardOf, DescentShaped, DescentZeroPast, DescentStands}
 use Rattle.quasinewton_theory.proofs.Follows.{gradient-follows}
 use Rattle.optim_fits_theory.specs.Fits.{allFits}
 use Rattle.optim_record.specs.declared.Record.{Record}
-use Rattle.optim_record.specs.Record.{bfgsMark, lbfgsMark, mostAllowed, mostEvals, noLimit, gradientFixedOf, gradientJobOf, valid_of}
+use Rattle.optim_record.specs.Record.{bfgsMark, lbfgsMark, mostAllowed, mostEvals, noLimit, gradientFixedOf, gradientJobOf, validOf}
 use Rattle.optim_record.proofs.Refusal1Parts.{ending-part}
 use Rattle.optim_record.proofs.Refusal1.{descent-valid}
 use Rattle.optim_reply.specs.Standing.{overOf, gradientDueOf, descentTerminationOf, descentConvergedOf, descentResultOf, standingDescentOf, standingOf}
@@ -39,8 +39,8 @@ use Rattle.optim_theory.proofs.Replies.{gradient-marks, no-simplex, no-search}
 abbrev pub Text : Type 0
 Text = Ask (Ending GradientPosition)
 
-abbrev pub rest_of : Record → Text
-rest_of r = toDo (gradientFixedOf r) r.descent r.model
+abbrev pub restOf : Record → Text
+restOf r = toDo (gradientFixedOf r) r.descent r.model
 
 -- as the engine of all fits has it
 abbrev pub shownAs : FitLimits → Record → Text → Reply × Kept allFits.Position
@@ -75,7 +75,7 @@ pub record Low (r : Record) : Type 0 where
 
 -- ---- it is in range
 
-pub valid : (r : Record) → Sound r → Low r → valid_of r ≡ true
+pub valid : (r : Record) → Sound r → Low r → validOf r ≡ true
 valid r S L =
     let s = r.descent.search in
     let R = S.model.range in
@@ -134,11 +134,11 @@ module _ (r : Record) (S : Sound r) where
   fixed = gradientFixedOf r
 
   -- the question that the text puts next, and the rest after its answer
-  pub asks : asksOf r.descent ≡ true → rest_of r ≡ query (kind_of fixed r.descent) (first r.n (probeOf fixed r.descent)) (λ w. toDo fixed (heardOf fixed r.descent w) r.model)
+  pub asks : asksOf r.descent ≡ true → restOf r ≡ query (kindOf fixed r.descent) (first r.n (probeOf fixed r.descent)) (λ w. toDo fixed (heardOf fixed r.descent w) r.model)
   asks e = (gradient-follows fixed).follows r.descent r.model S.shape e
 
-  pub ended_by : asksOf r.descent ≡ false → rest_of r ≡ finish (endingOf fixed r.descent r.model)
-  ended_by e = (gradient-follows fixed).ends r.descent r.model S.shape S.stands e
+  pub ended-by : asksOf r.descent ≡ false → restOf r ≡ finish (endingOf fixed r.descent r.model)
+  ended-by e = (gradient-follows fixed).ends r.descent r.model S.shape S.stands e
 
   as-descent : standingOf r ≡ standingDescentOf r
   unfolding standingOf
@@ -153,7 +153,7 @@ module _ (r : Record) (S : Sound r) where
   due-as = rw (no-search r.job S.job, S.job)
 
   -- a question stands open
-  shows-question : (l : FitLimits) → asksOf r.descent ≡ true → (standingDescentOf r).0 ≡ (shownAs l r (rest_of r)).0
+  shows-question : (l : FitLimits) → asksOf r.descent ≡ true → (standingDescentOf r).0 ≡ (shownAs l r (restOf r)).0
   unfolding standingDescentOf quasinewton.gradientDueOf ◌>>=◌
   shows-question l e =
       subst (λ (m : Text). (standingDescentOf r).0 ≡ (shownAs l r m).0) (sym (asks e)) (rw e (go (wantsGradient fixed r.descent)))
@@ -177,22 +177,22 @@ module _ (r : Record) (S : Sound r) where
       go false i f = omega (arith, eqb-false r.descent.phase searching i, leb-false r.descent.phase quasinewton.firstDifferences f)
 
   -- the fit has ended
-  shows-end : (l : FitLimits) → asksOf r.descent ≡ false → (standingDescentOf r).0 ≡ (shownAs l r (rest_of r)).0
+  shows-end : (l : FitLimits) → asksOf r.descent ≡ false → (standingDescentOf r).0 ≡ (shownAs l r (restOf r)).0
   unfolding standingDescentOf descentResultOf ◌>>=◌
-  shows-end l e = subst (λ (m : Text). (standingDescentOf r).0 ≡ (shownAs l r m).0) (sym (ended_by e)) (rw e (go (eqb r.descent.phase byRefusal)))
+  shows-end l e = subst (λ (m : Text). (standingDescentOf r).0 ≡ (shownAs l r m).0) (sym (ended-by e)) (rw e (go (eqb r.descent.phase byRefusal)))
     where
       p : ℕ
       p = r.descent.phase
 
       go : (b : Bool)
           → (cond {A = Reply × Record} b (refused r.descent.number r.descent.detail, r) (ended (fitted (descentResultOf r)), r)).0
-          ≡ (shownAs l r (finish (cond b (fails r.descent.number r.descent.detail) (stops (reasonOf p) (position_of fixed r.descent r.model))))).0
+          ≡ (shownAs l r (finish (cond b (fails r.descent.number r.descent.detail) (stops (reasonOf p) (positionOf fixed r.descent r.model))))).0
       go true = refl
       go false = rw (reasons p, converged-as p (past e))
 
-  pub shows : (l : FitLimits) → (standingOf r).0 ≡ (shownAs l r (rest_of r)).0
+  pub shows : (l : FitLimits) → (standingOf r).0 ≡ (shownAs l r (restOf r)).0
   shows l = ap (λ a. a.0) as-descent ∙ go (asksOf r.descent) refl
     where
-      go : (b : Bool) → asksOf r.descent ≡ b → (standingDescentOf r).0 ≡ (shownAs l r (rest_of r)).0
+      go : (b : Bool) → asksOf r.descent ≡ b → (standingDescentOf r).0 ≡ (shownAs l r (restOf r)).0
       go true e = shows-question l e
       go false e = shows-end l e

@@ -27,13 +27,13 @@ use Rattle.protocol.specs.Claim.{limit, unlimited, orDefault, defaultIter, defau
 use Rattle.protocol.specs.Ask.{finish, ◌>>=◌}
 use Rattle.protocol.specs.PastLimits.{excess, optionsPast, pastLimits}
 use Rattle.protocol.specs.Rounds.{fails, FitLimits, limitsOf, put, engine}
-use Rattle.protocol.specs.Bounds.{of_both}
+use Rattle.protocol.specs.Bounds.{ofBoth}
 use Rattle.protocol.specs.Fits.{mapText}
 use Rattle.quasinewton_model_theory.specs.Algorithm.{one}
 use Rattle.quasinewton_model.specs.Step.{newModelOf}
 use Rattle.quasinewton_model_theory.proofs.Ties.{hessian-ties}
 use Rattle.quasinewton_record.specs.declared.Fixed.{Fixed}
-use Rattle.quasinewton.specs.Step.{start_of}
+use Rattle.quasinewton.specs.Step.{startOf}
 use Rattle.objective.specs.Step.{begunOf}
 use Rattle.quasinewton_theory.specs.Algorithm.{opened, opening, begunWith}
 use Rattle.quasinewton_theory.proofs.Follows.{gradient-follows}
@@ -47,7 +47,7 @@ use Rattle.optim_start.specs.Start.{gradientOf, bfgsOf, lbfgsOf}
 use Rattle.optim_theory.specs.Engine.{startCode}
 use Rattle.optim_theory.proofs.Refusals.{start-named}
 use Rattle.optim_theory.proofs.EngineStarts.{by-given, excess-as, limit-as, whole, finite-as, decide}
-use Rattle.optim_theory.proofs.DescentRelated.{Text, rest_of, ModelMarked, Sound, shows}
+use Rattle.optim_theory.proofs.DescentRelated.{Text, restOf, ModelMarked, Sound, shows}
 use Rattle.optim_theory.proofs.DescentBounds.{Budget, bounding, Within}
 use Rattle.optim_theory.proofs.DescentMoves.{AsLimit, Bounded}
 use Rattle.optim_theory.proofs.DescentAnswers.{Texts, Relates}
@@ -207,16 +207,16 @@ module _ (limited : Bool) (o : GradientOptions) (a : Allowances) (x : List Float
         gradient = k;
         diff = begunOf (replicate 16 plusZero);
         simplex = idleOf;
-        descent = start_of point;
+        descent = startOf point;
         model = newModelOf limited k.memory n;
       }
 
   abbrev made : Record
   made = firstWith kept
 
-  made_as : gradientRecordOf point n o a limited ≡ made
+  made-as : gradientRecordOf point n o a limited ≡ made
   unfolding gradientRecordOf
-  made_as = ap firstWith kept-as
+  made-as = ap firstWith kept-as
 
   abbrev fixed : Fixed
   fixed = gradientFixedOf made
@@ -277,7 +277,7 @@ module _ (limited : Bool) (o : GradientOptions) (a : Allowances) (x : List Float
         memory = by-memory (λ k. k ≤ 16) zero-le F.memory;
       }
 
-  made-rest : n ≤ 16 → rest_of made ≡ opened limited kept x
+  made-rest : n ≤ 16 → restOf made ≡ opened limited kept x
   made-rest small = (gradient-follows fixed).starts limited point small ∙ ap (opened limited kept) (whole x)
 
   -- ---- its bounds
@@ -312,24 +312,24 @@ module _ (limited : Bool) (o : GradientOptions) (a : Allowances) (x : List Float
         evals = F.trials;
         short = F.unknowns;
         counts = λ κ. none κ;
-        keeps = λ κ. subst (Within κ budget (of_both κ 0 0)) (opens ∙ sym (made-rest F.unknowns)) (first κ);
+        keeps = λ κ. subst (Within κ budget (ofBoth κ 0 0)) (opens ∙ sym (made-rest F.unknowns)) (first κ);
       }
     where
-      none : (κ : Kind) → of_both κ 0 0 ≤ (bounding κ budget).bound
+      none : (κ : Kind) → ofBoth κ 0 0 ≤ (bounding κ budget).bound
       none Value = zero-le
       none Gradient = zero-le
 
-      first : (κ : Kind) → Within κ budget (of_both κ 0 0) (opening limited kept x)
+      first : (κ : Kind) → Within κ budget (ofBoth κ 0 0) (opening limited kept x)
       first Value = (bounding Value budget).laws.opening-keeps
       first Gradient = (bounding Gradient budget).laws.opening-keeps
 
   begins : Few → 1 ≤ n → (limited ≡ true → 0 < o.memory) → opening limited kept x ≡ opened limited kept x
       → Begun (standingOf (gradientRecordOf point n o a limited)) (putFirst (limitsOf fit) (opened limited kept x))
   begins F above filled opens =
-      subst (λ (r : Record). Begun (standingOf r) (putFirst (limitsOf fit) (opened limited kept x))) (sym made_as)
+      subst (λ (r : Record). Begun (standingOf r) (putFirst (limitsOf fit) (opened limited kept x))) (sym made-as)
       (subst (λ (m : Text). Begun (standingOf made) (putFirst (limitsOf fit) m)) (made-rest F.unknowns) (
         shows made S (limitsOf fit),
-        λ z. subst (λ (r : Record). Relates r (putFirst (limitsOf fit) (rest_of made)).1) (sym (stands-keeps made)) (record { budget = budget; sound = S; bounded = made-bounded F opens; is = refl }),
+        λ z. subst (λ (r : Record). Relates r (putFirst (limitsOf fit) (restOf made)).1) (sym (stands-keeps made)) (record { budget = budget; sound = S; bounded = made-bounded F opens; is = refl }),
       ))
     where
       S : Sound made

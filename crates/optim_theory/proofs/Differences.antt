@@ -20,7 +20,7 @@ use Rattle.protocol.specs.declared.Kind.TheVariants.{Value, Gradient}
 use Rattle.protocol.specs.Protocol.{Question, Answer, refused}
 use Rattle.protocol.specs.Dialogue.{GivenF64s, NotRefused}
 use Rattle.protocol.specs.Ask.{Ask}
-use Rattle.protocol.specs.Bounds.{of_both, questionsOf}
+use Rattle.protocol.specs.Bounds.{ofBoth, questionsOf}
 use Rattle.protocol.proofs.Bounds.{all-questions}
 use Rattle.protocol.specs.Follow.{Alike}
 use Rattle.objective.specs.declared.Differences.{Differences}
@@ -30,7 +30,7 @@ use Rattle.objective.specs.Follows.{DifferencesSized, DifferencesZeroPast, toDo}
 use Rattle.objective.proofs.Follows.{follows}
 use Rattle.linesearch_theory.proofs.Counts.{counts as search-counts}
 use Rattle.optim_record.specs.declared.Record.{Record}
-use Rattle.optim_record.specs.Record.{simplexMark, searchMark, differencesMark, most, valid_of, Other}
+use Rattle.optim_record.specs.Record.{simplexMark, searchMark, differencesMark, most, validOf, Other}
 use Rattle.optim_record.proofs.Refusal1.{differences-valid}
 use Rattle.optim_reply.specs.Standing.{overOf, gradientDueOf}
 use Rattle.optim_reply.proofs.Says.{stands-keeps}
@@ -39,10 +39,10 @@ use Rattle.optim.specs.Answer.{steppedOf}
 use Rattle.optim_start.specs.Start.{differencesOf}
 use Rattle.optim_theory.specs.Engine.{answerCode}
 use Rattle.optim_theory.specs.Examples.{sample}
-use Rattle.optim_theory.specs.Jobs.{Text, last_of, shown, begunBy, answerBy}
+use Rattle.optim_theory.specs.Jobs.{Text, lastOf, shown, begunBy, answerBy}
 use Rattle.optim_theory.specs.Follows.{asTold, differencesEnding, rest, differencesRun, DifferencesFollowsText, DifferencesInRange, DifferencesZeros, DifferencesAtMost}
-use Rattle.optim_theory.proofs.Follows.{short, steps, begun-other, begun_sized, job-follows}
-use Rattle.optim_theory.proofs.Jobs.{at_most}
+use Rattle.optim_theory.proofs.Follows.{short, steps, begun-other, begun-sized, job-follows}
+use Rattle.optim_theory.proofs.Jobs.{at-most}
 use Rattle.optim_theory.proofs.JobAnswers as job
 use Rattle.optim_theory.proofs.JobLists as lists
 
@@ -61,7 +61,7 @@ record Sound (r : Record) : Type 0 where
   gradients : r.counts.gevals ≡ 0
   zeros : DifferencesZeroPast r.n r.diff
 
-valid : (r : Record) → Sound r → valid_of r ≡ true
+valid : (r : Record) → Sound r → validOf r ≡ true
 valid r S =
     differences-valid r S.job (record { few = S.sized.small; accepted = few; fevals = rw S.values few; gevals = omega (arith, S.gradients) }) S.sized.within
   where
@@ -102,12 +102,12 @@ stepped-sound r v S h =
 
 -- ---- the text that a record stands for
 
-abbrev text_of : Record → Text (List Float)
-text_of r = record { values = r.counts.fevals; gradients = r.counts.gevals; rest = rest r }
+abbrev textOf : Record → Text (List Float)
+textOf r = record { values = r.counts.fevals; gradients = r.counts.gevals; rest = rest r }
 
 record Tied (r : Record) (t : Text (List Float)) : Type 0 where
   sound : Sound r
-  is : text_of r ≡ t
+  is : textOf r ≡ t
 
 over-as : (r : Record) → Sound r → overOf r ≡ eqb r.diff.at r.n
 unfolding overOf
@@ -124,11 +124,11 @@ module _ (r : Record) (S : Sound r) where
   leads v h =
       record {
         sound = stepped-sound r v S h;
-        is = ap text_of (steps r v S.other)
+        is = ap textOf (steps r v S.other)
             ∙ ap (λ (g : ℕ). record { values = r.counts.fevals + 1; gradients = g; rest = toDo asTold r.n (toldOf r.diff v) }) (sym (add-zero r.counts.gevals));
       }
 
-  asking : eqb r.diff.at r.n ≡ false → job.Asking differencesEnding Tied r (text_of r)
+  asking : eqb r.diff.at r.n ≡ false → job.Asking differencesEnding Tied r (textOf r)
   asking e =
       let h = short r S.sized (eqb-false r.diff.at r.n e) in
       record {
@@ -142,14 +142,14 @@ module _ (r : Record) (S : Sound r) where
         leads = λ w. rw (due-as r S) (leads (get_or w 0 nan) h);
       }
 
-  ended_by : eqb r.diff.at r.n ≡ true → job.Over differencesEnding Tied r (text_of r)
-  ended_by e = record { result = _; rest = (follows asTold).ends r.n r.diff (eqb-true _ _ e); over = over-as r S ∙ e }
+  ended-by : eqb r.diff.at r.n ≡ true → job.Over differencesEnding Tied r (textOf r)
+  ended-by e = record { result = _; rest = (follows asTold).ends r.n r.diff (eqb-true _ _ e); over = over-as r S ∙ e }
 
-  state : job.Asking differencesEnding Tied r (text_of r) ⊎ job.Over differencesEnding Tied r (text_of r)
+  state : job.Asking differencesEnding Tied r (textOf r) ⊎ job.Over differencesEnding Tied r (textOf r)
   state = go (eqb r.diff.at r.n) refl
     where
-      go : (b : Bool) → eqb r.diff.at r.n ≡ b → job.Asking differencesEnding Tied r (text_of r) ⊎ job.Over differencesEnding Tied r (text_of r)
-      go true e = inr (ended_by e)
+      go : (b : Bool) → eqb r.diff.at r.n ≡ b → job.Asking differencesEnding Tied r (textOf r) ⊎ job.Over differencesEnding Tied r (textOf r)
+      go true e = inr (ended-by e)
       go false e = inl (asking e)
 
   numbers : r.accepted ≡ r.counts.fevals + r.counts.gevals
@@ -159,9 +159,9 @@ ties : job.JobTies differencesEnding Tied
 ties =
     record {
       valid = λ r t T. valid r T.sound;
-      numbers = λ r t T. numbers r T.sound ∙ ap last_of T.is;
+      numbers = λ r t T. numbers r T.sound ∙ ap lastOf T.is;
       stands = λ r t T. job-follows.stands r T.sound.other T.sound.sized ∙ ap (λ (k : ℕ). shown differencesEnding k (rest r)) (numbers r T.sound)
-          ∙ ap (λ (z : Text (List Float)). shown differencesEnding (last_of z) z.rest) T.is;
+          ∙ ap (λ (z : Text (List Float)). shown differencesEnding (lastOf z) z.rest) T.is;
       state = λ r t T. subst (λ (z : Text (List Float)). job.Asking differencesEnding Tied r z ⊎ job.Over differencesEnding Tied r z) T.is (state r T.sound);
     }
 
@@ -173,7 +173,7 @@ begun-sound x h =
     record {
       job = refl;
       other = begun-other x;
-      sized = begun_sized x h;
+      sized = begun-sized x h;
       count = refl;
       values = refl;
       gradients = refl;
@@ -232,10 +232,10 @@ differences-zeros x l n = (reached x n l).1.sound.zeros
 
 -- ---- how many questions
 
-by_kind : (κ : Kind) (x : List Float) (l : List Answer) → NotRefused (differencesOf x).0 → GivenF64s l → questionsOf κ (differencesRun x l).questions ≤ of_both κ (2 * length x) 0
-by_kind κ x l n w =
-    subst (λ (qs : List Question). questionsOf κ qs ≤ of_both κ (2 * length x) 0) (sym (same x n l w).questions)
-    (at_most differencesEnding (record { asks_none = λ g. refl; takes_none = λ g a. refl }) κ _ (differences asTold x) (search-counts.gradient-costs κ asTold false x (length x) (omega arith)) l)
+by-kind : (κ : Kind) (x : List Float) (l : List Answer) → NotRefused (differencesOf x).0 → GivenF64s l → questionsOf κ (differencesRun x l).questions ≤ ofBoth κ (2 * length x) 0
+by-kind κ x l n w =
+    subst (λ (qs : List Question). questionsOf κ qs ≤ ofBoth κ (2 * length x) 0) (sym (same x n l w).questions)
+    (at-most differencesEnding (record { asks-none = λ g. refl; takes-none = λ g a. refl }) κ _ (differences asTold x) (search-counts.gradient-costs κ asTold false x (length x) (omega arith)) l)
 
 pub differences-at-most : DifferencesAtMost
-differences-at-most x l n w = omega (arith, all-questions (differencesRun x l).questions, by_kind Value x l n w, by_kind Gradient x l n w)
+differences-at-most x l n w = omega (arith, all-questions (differencesRun x l).questions, by-kind Value x l n w, by-kind Gradient x l n w)

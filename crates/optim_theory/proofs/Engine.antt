@@ -11,7 +11,7 @@ use Rattle.protocol.specs.Protocol.{Question, Answer, Reply, Job, simplex, bfgs,
 use Rattle.protocol.specs.Dialogue.{F64s, GivenF64s, run, NotRefused, Started}
 use Rattle.protocol.specs.Rounds.{Kept}
 use Rattle.protocol.specs.Bounds.{questionsOf}
-use Rattle.protocol.specs.Places.{StepsLaws, Placed, start_at, answerAt}
+use Rattle.protocol.specs.Places.{StepsLaws, Placed, startAt, answerAt}
 use Rattle.protocol.specs.Follow.{Follows}
 use Rattle.protocol.proofs.FitsPlaces.{fits-steps-laws}
 use Rattle.protocol.proofs.Places.{places-follow}
@@ -40,7 +40,7 @@ Texts = Kept allFits.Position
 laws : StepsLaws allFits allSteps
 laws = fits-steps-laws nelderMead quasiNewton simplexSteps gradientSteps simplex-steps (textual-laws quasiNewton)
 
-places : Follows (Placed Place) Texts (start_at allFits allSteps) (answerAt allFits allSteps) reference.start reference.answer
+places : Follows (Placed Place) Texts (startAt allFits allSteps) (answerAt allFits allSteps) reference.start reference.answer
 places = places-follow allFits allSteps laws
 
 -- a record of a simplex fit stands for the text that its place stands for
@@ -77,7 +77,7 @@ by-job (simplex o) a x =
     let f : Fit = record { job = simplex o; allowances = a; x0 = x } in
     let t = simplex-starts o a x in
     let u = places.starts f in
-    (t.0 ∙ u.0, λ n. inl (record { place = (start_at allFits allSteps f).1; relates = t.1 n; stands = u.1 (subst NotRefused t.0 n) }))
+    (t.0 ∙ u.0, λ n. inl (record { place = (startAt allFits allSteps f).1; relates = t.1 n; stands = u.1 (subst NotRefused t.0 n) }))
 by-job (bfgs o) a x = let t = bfgs-starts o a x in (t.0, λ n. inr (t.1 n))
 by-job (lbfgs o) a x = let t = lbfgs-starts o a x in (t.0, λ n. inr (t.1 n))
 

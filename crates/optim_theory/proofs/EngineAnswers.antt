@@ -11,24 +11,24 @@ use lib.Dec.{eqb, ltb}
 use lib.ListN.{length, get_or}
 use lib.Ieee.{Float, nan}
 use Rattle.vector.specs.Points.{fromSliceOf}
-use Rattle.protocol.specs.Protocol.{Answer, Reply, refused, read_of}
+use Rattle.protocol.specs.Protocol.{Answer, Reply, refused, readOf}
 use Rattle.protocol.specs.Rounds.{FitLimits}
 use Rattle.protocol.specs.Places.{still, Held, at, closed, Placed, placed, putTurn, standingAt, acceptAt, freshAt, answerAt, Turns}
 use Rattle.quasinewton_theory.specs.Algorithm.{quasiNewton}
 use Rattle.optim_fits_theory.specs.Fits.{allFits}
-use Rattle.neldermead_theory.specs.Phases.{Phase, step_of}
+use Rattle.neldermead_theory.specs.Phases.{Phase, stepOf}
 use Rattle.neldermead.specs.Step.{toldOf}
 use Rattle.neldermead_theory.specs.Follows.{Related, RelatedMove, settledMove, SimplexAllows}
 use Rattle.neldermead_theory.proofs.Follows.{simplex-follows, settles-as-fits}
 use Rattle.optim_record.specs.declared.Record.{Record}
-use Rattle.optim_record.specs.Record.{simplexMark, most, lastAsking, fixed_of, valid_of}
+use Rattle.optim_record.specs.Record.{simplexMark, most, lastAsking, fixedOf, validOf}
 use Rattle.optim_reply.specs.Standing.{overOf, gradientDueOf, standingOf}
 use Rattle.optim_reply.proofs.Says.{stands-keeps}
 use Rattle.optim_rules.specs.Rules.{repeatsOf, suitsOf}
-use Rattle.optim.specs.Answer.{valuedOf, steppedOf, taken_of, takenGradientOf, heardOf, answer_of}
+use Rattle.optim.specs.Answer.{valuedOf, steppedOf, takenOf, takenGradientOf, heardOf, answerOf}
 use Rattle.optim.proofs.Advance.{due-simplex}
 use Rattle.optim_theory.specs.Engine.{answerCode}
-use Rattle.optim_theory.proofs.EngineBounded.{told-within, step_keeps}
+use Rattle.optim_theory.proofs.EngineBounded.{told-within, step-keeps}
 use Rattle.optim_theory.proofs.EngineRelated.{gradientSteps, allSteps, Place, putMove, Sound, Left, HeldBy, Relates, bound-low, mark-asks, valid, put-related}
 
 -- ---- tests of an answer
@@ -55,13 +55,13 @@ suits-as r k n e = rw (due-simplex r e) (go (eqb k 86))
 
 -- the record after the value v
 abbrev next : Record → Float → Record
-next r v = valuedOf r r.diff (toldOf (fixed_of r) r.simplex (read_of v) (r.counts.fevals + 1)) r.descent r.model
+next r v = valuedOf r r.diff (toldOf (fixedOf r) r.simplex (readOf v) (r.counts.fevals + 1)) r.descent r.model
 
 stepped : (r : Record) (v : Float) → r.job ≡ simplexMark → steppedOf r v ≡ next r v
 unfolding steppedOf
 stepped r v e = rw (eq-eqb r.job simplexMark e)
 
-module _ (r : Record) (l : FitLimits) (A : SimplexAllows (fixed_of r) l) (x : List Float) (long : length x ≡ r.n) (S : Sound r) where
+module _ (r : Record) (l : FitLimits) (A : SimplexAllows (fixedOf r) l) (x : List Float) (long : length x ≡ r.n) (S : Sound r) where
   -- the record that is followed
   abbrev followed : Held Place → Placed Place
   followed h = placed allFits allSteps l r.accepted r.accepted 0 h
@@ -73,15 +73,15 @@ module _ (r : Record) (l : FitLimits) (A : SimplexAllows (fixed_of r) l) (x : Li
         numbers = room;
         values = rw S.values;
         gradients = S.gradients;
-        shape = simplex-follows.told-shaped (fixed_of r) r.simplex (read_of v) (r.counts.fevals + 1) S.shape;
-        zeros = simplex-follows.told-zeros (fixed_of r) r.simplex (read_of v) (r.counts.fevals + 1) S.shape S.zeros;
-        within = told-within (fixed_of r) r.simplex (read_of v) (r.counts.fevals + 1) S.within;
+        shape = simplex-follows.told-shaped (fixedOf r) r.simplex (readOf v) (r.counts.fevals + 1) S.shape;
+        zeros = simplex-follows.told-zeros (fixedOf r) r.simplex (readOf v) (r.counts.fevals + 1) S.shape S.zeros;
+        within = told-within (fixedOf r) r.simplex (readOf v) (r.counts.fevals + 1) S.within;
         iter = S.iter;
         fevals = S.fevals;
         restarts = S.restarts;
       }
 
-  module _ (ph : Phase) (h : Related (fixed_of r) r.simplex ph) (b : Left r l A x (still ph)) (a : Answer) where
+  module _ (ph : Phase) (h : Related (fixedOf r) r.simplex ph) (b : Left r l A x (still ph)) (a : Answer) where
     abbrev v : Float
     v = get_or a.words 0 nan
 
@@ -89,25 +89,25 @@ module _ (r : Record) (l : FitLimits) (A : SimplexAllows (fixed_of r) l) (x : Li
     room =
         omega (
           arith,
-          (step_keeps r.limits.fevals r.options x l A.fevals r.accepted ph b).0,
+          (step-keeps r.limits.fevals r.options x l A.fevals r.accepted ph b).0,
           bound-low r.limits.fevals r.options x S.fevals S.restarts (omega (arith, long, S.shape.small)),
         )
 
     -- the record goes where the phase goes
-    moves : RelatedMove (fixed_of r) (toldOf (fixed_of r) r.simplex (read_of v) (r.counts.fevals + 1)) (settledMove l (r.accepted + 1) (step_of ph a.words))
-    moves = rw S.values (simplex-follows.follows (fixed_of r) l r.simplex ph A S.shape h v (r.accepted + 1))
+    moves : RelatedMove (fixedOf r) (toldOf (fixedOf r) r.simplex (readOf v) (r.counts.fevals + 1)) (settledMove l (r.accepted + 1) (stepOf ph a.words))
+    moves = rw S.values (simplex-follows.follows (fixedOf r) l r.simplex ph A S.shape h v (r.accepted + 1))
 
-    taken_as : ((standingOf (next r v)).0 ≡ (putMove l (r.accepted + 1) (settledMove l (r.accepted + 1) (step_of ph a.words))).0)
-        × Relates (next r v) (putMove l (r.accepted + 1) (settledMove l (r.accepted + 1) (step_of ph a.words))).1
-    taken_as =
-        put-related (next r v) (next-sound v room) l A x long (settledMove l (r.accepted + 1) (step_of ph a.words)) moves
-        ((step_keeps r.limits.fevals r.options x l A.fevals r.accepted ph b).1 a.words)
+    taken-as : ((standingOf (next r v)).0 ≡ (putMove l (r.accepted + 1) (settledMove l (r.accepted + 1) (stepOf ph a.words))).0)
+        × Relates (next r v) (putMove l (r.accepted + 1) (settledMove l (r.accepted + 1) (stepOf ph a.words))).1
+    taken-as =
+        put-related (next r v) (next-sound v room) l A x long (settledMove l (r.accepted + 1) (stepOf ph a.words)) moves
+        ((step-keeps r.limits.fevals r.options x l A.fevals r.accepted ph b).1 a.words)
 
-    accepted-as : acceptAt allFits allSteps (followed (at (inl ph))) (inl ph) a ≡ putMove l (r.accepted + 1) (settledMove l (r.accepted + 1) (step_of ph a.words))
+    accepted-as : acceptAt allFits allSteps (followed (at (inl ph))) (inl ph) a ≡ putMove l (r.accepted + 1) (settledMove l (r.accepted + 1) (stepOf ph a.words))
     accepted-as =
         rw (sym (add-one r.accepted))
         (ap (λ (t : Turns allFits allSteps). putTurn allFits allSteps l (r.accepted + 1) (r.accepted + 1) 0 t)
-        (settles-as-fits quasiNewton gradientSteps l (r.accepted + 1) (step_of ph a.words)))
+        (settles-as-fits quasiNewton gradientSteps l (r.accepted + 1) (stepOf ph a.words)))
 
   -- ---- any answer
 
@@ -143,8 +143,8 @@ module _ (r : Record) (l : FitLimits) (A : SimplexAllows (fixed_of r) l) (x : Li
 
   -- an accepted answer raises the number last accepted
   taken : (ph : Phase) (held : HeldBy r l A x (at (inl ph))) (a : Answer)
-      → Same (at (inl ph)) (taken_of r (get_or a.words 0 nan)) (acceptAt allFits allSteps (followed (at (inl ph))) (inl ph) a)
-  unfolding taken_of
+      → Same (at (inl ph)) (takenOf r (get_or a.words 0 nan)) (acceptAt allFits allSteps (followed (at (inl ph))) (inl ph) a)
+  unfolding takenOf
   taken ph held a =
       rw (stepped r (v ph held.0 held.1 a) S.job, accepted-as ph held.0 held.1 a)
       (record {
@@ -156,12 +156,12 @@ module _ (r : Record) (l : FitLimits) (A : SimplexAllows (fixed_of r) l) (x : Li
       q : Record
       q = next r (get_or a.words 0 nan)
 
-      t : ((standingOf q).0 ≡ (putMove l (r.accepted + 1) (settledMove l (r.accepted + 1) (step_of ph a.words))).0)
-          × Relates q (putMove l (r.accepted + 1) (settledMove l (r.accepted + 1) (step_of ph a.words))).1
-      t = taken_as ph held.0 held.1 a
+      t : ((standingOf q).0 ≡ (putMove l (r.accepted + 1) (settledMove l (r.accepted + 1) (stepOf ph a.words))).0)
+          × Relates q (putMove l (r.accepted + 1) (settledMove l (r.accepted + 1) (stepOf ph a.words))).1
+      t = taken-as ph held.0 held.1 a
 
-      related : Relates (standingOf q).1 (putMove l (r.accepted + 1) (settledMove l (r.accepted + 1) (step_of ph a.words))).1
-      related = subst (λ (z : Record). Relates z (putMove l (r.accepted + 1) (settledMove l (r.accepted + 1) (step_of ph a.words))).1) (sym (stands-keeps q)) t.1
+      related : Relates (standingOf q).1 (putMove l (r.accepted + 1) (settledMove l (r.accepted + 1) (stepOf ph a.words))).1
+      related = subst (λ (z : Record). Relates z (putMove l (r.accepted + 1) (settledMove l (r.accepted + 1) (stepOf ph a.words))).1) (sym (stands-keeps q)) t.1
 
       clash : (standingOf q).1.accepted ≡ r.accepted → ⊥
       clash e = omega (arith, ap (λ (z : Record). z.accepted) (stands-keeps q))
@@ -172,7 +172,7 @@ module _ (r : Record) (l : FitLimits) (A : SimplexAllows (fixed_of r) l) (x : Li
       (cond (overOf r) (refused 15 0, r)
       (cond (not (eqb a.number (r.accepted + 1))) (refused 16 0, r)
       (cond (not (suitsOf r a.kind (length a.words))) (refused 17 0, r)
-      (cond (gradientDueOf r) (takenGradientOf r (fromSliceOf a.words r.n)) (taken_of r (get_or a.words 0 nan))))))
+      (cond (gradientDueOf r) (takenGradientOf r (fromSliceOf a.words r.n)) (takenOf r (get_or a.words 0 nan))))))
       (freshAt allFits allSteps (followed h) h a)
   fresh (closed y) held a = rw (over-as true (lt-ltb lastAsking r.simplex.phase held.past)) (unmoved (closed y) held (refused 15 0))
   fresh (at (inr s)) held a = absurd held
@@ -183,14 +183,14 @@ module _ (r : Record) (l : FitLimits) (A : SimplexAllows (fixed_of r) l) (x : Li
       (taken ph held a)))
 
   answered : (h : Held Place) → HeldBy r l A x h → (a : Answer) → Same h (answerCode r a) (answerAt allFits allSteps (followed h) a)
-  unfolding answer_of heardOf
+  unfolding answerOf heardOf
   answered h held a =
       rw (valid r S l A x h held)
       (both h (repeatsOf r.accepted a.number) _ _ _ _ _ (repeats-as r.accepted a.number) (repeated h held) (fresh h held a))
 
 -- ---- of any two records that are tied
 
-pub valid-of : (r : Record) (s : Placed Place) → Relates r s → valid_of r ≡ true
+pub valid-of : (r : Record) (s : Placed Place) → Relates r s → validOf r ≡ true
 valid-of r s R = valid r R.sound R.limits R.allows R.x0 R.held R.holds
 
 module _ (r : Record) (s : Placed Place) (a : Answer) (R : Relates r s) where

@@ -17,9 +17,9 @@ use Rattle.protocol.specs.Places.{still, ends, text}
 use Rattle.neldermead.specs.declared.Fixed.{Fixed}
 use Rattle.neldermead.specs.declared.Simplex.{Simplex}
 use Rattle.neldermead_theory.specs.Algorithm.{SimplexPosition, tests, nelderMead}
-use Rattle.neldermead_theory.specs.Phases.{Phase, Move, step_of, simplexSteps}
+use Rattle.neldermead_theory.specs.Phases.{Phase, Move, stepOf, simplexSteps}
 use Rattle.neldermead_vertices.specs.Vertices.{vertexAt, anyFiniteOf, convergedOf}
-use Rattle.neldermead.specs.Step.{building, reflecting, expanding, contractingOutside, contractingInside, shrinking, orderedOf, trialOf, reflectOf, done_of, tested_of, headedOf, buildOf, settled_of, builtOf, replacedOf, reflectedOf, expandedOf, shrinkOf, outsideOf, insideOf, shrinkingOf, toldOf, start_of}
+use Rattle.neldermead.specs.Step.{building, reflecting, expanding, contractingOutside, contractingInside, shrinking, orderedOf, trialOf, reflectOf, doneOf, testedOf, headedOf, buildOf, settledOf, builtOf, replacedOf, reflectedOf, expandedOf, shrinkOf, outsideOf, insideOf, shrinkingOf, toldOf, startOf}
 use Rattle.neldermead_theory.specs.Counts.{byFevals}
 use Rattle.neldermead_theory.specs.Follows.{allowedMove, headedMove, settledMove}
 use Rattle.neldermead_theory.proofs.Phases.{simplex-steps}
@@ -31,8 +31,8 @@ pub record Within (fit : Fixed) (s : Simplex) : Type 0 where
   pub rounds : s.rounds ≤ fit.iter
   pub runs : s.runs ≤ fit.options.restarts
 
-pub start-within : (fit : Fixed) (x : List Float) → Within fit (start_of x)
-unfolding start_of
+pub start-within : (fit : Fixed) (x : List Float) → Within fit (startOf x)
+unfolding startOf
 start-within fit x = record { rounds = zero-le; runs = zero-le }
 
 module _ (fit : Fixed) where
@@ -48,14 +48,14 @@ module _ (fit : Fixed) where
   unfolding reflectOf trialOf
   reflect-within s l h = record { rounds = l; runs = h.runs }
 
-  done-within : (s : Simplex) → Within fit s → Within fit (done_of fit.options s)
-  unfolding done_of
+  done-within : (s : Simplex) → Within fit s → Within fit (doneOf fit.options s)
+  unfolding doneOf
   done-within s h =
       either (leb fit.options.restarts s.runs) _ _ (λ e. same s _ refl refl h)
       (λ e. record { rounds = h.rounds; runs = omega (arith, leb-false fit.options.restarts s.runs e) })
 
-  tested-within : (s : Simplex) (v : ℕ) → Within fit s → Within fit (tested_of fit s v)
-  unfolding tested_of
+  tested-within : (s : Simplex) (v : ℕ) → Within fit s → Within fit (testedOf fit s v)
+  unfolding testedOf
   tested-within s v h =
       either (convergedOf fit.options s.v fit.n) _ _ (λ e. done-within s h)
       (λ e. either (leb fit.iter s.rounds) _ _ (λ i. same s _ refl refl h)
@@ -68,7 +68,7 @@ module _ (fit : Fixed) where
 
   module _ (s : Simplex) (f : Float) (v : ℕ) (h : Within fit s) where
     built-within : Within fit (builtOf fit s f v)
-    unfolding builtOf buildOf settled_of
+    unfolding builtOf buildOf settledOf
     built-within =
         either (ltb s.at fit.n) _ _ (λ e. same s _ refl refl h)
         (λ e. either (anyFiniteOf _ (fit.n + 1)) _ _ (λ i. headed-within _ v (same s _ refl refl h)) (λ i. same s _ refl refl h))
@@ -132,7 +132,7 @@ module _ (M : ℕ) (o : SimplexOptions) (x : List Float) (l : FitLimits) (e : l.
       both true b i j = tt
       both false true i j = tt
       both false false i j =
-          subst (Keeps Value (byFevals M o x) laws.Head k) (sym (simplex-steps.rounds p)) (laws.round_keeps k 0 p h i j)
+          subst (Keeps Value (byFevals M o x) laws.Head k) (sym (simplex-steps.rounds p)) (laws.round-keeps k 0 p h i j)
 
       go : (y : Verdict SimplexPosition) → tests p ≡ y → Budget k (headedMove l k y p)
       go goOn i = both (reached p.iterations l.iter) (reached k l.fevals) refl refl
@@ -140,10 +140,10 @@ module _ (M : ℕ) (o : SimplexOptions) (x : List Float) (l : FitLimits) (e : l.
       go (restart m) i = subst (Keeps Value (byFevals M o x) laws.Head k) (sym (simplex-steps.restarts p m i)) (laws.restart-keeps k p m h i)
 
   -- one question more keeps to the bound, and so does what its answer leads to
-  pub step_keeps : (k : ℕ) (ph : Phase) → Budget k (still ph) → (k + 1 ≤ byFevals M o x) × ((w : List Float) → Budget (k + 1) (settledMove l (k + 1) (step_of ph w)))
-  step_keeps k ph h =
+  pub step-keeps : (k : ℕ) (ph : Phase) → Budget k (still ph) → (k + 1 ≤ byFevals M o x) × ((w : List Float) → Budget (k + 1) (settledMove l (k + 1) (stepOf ph w)))
+  step-keeps k ph h =
       let q = subst (Keeps Value (byFevals M o x) laws.Head k) (simplex-steps.follows ph) h in
-      (q.0, λ w. settled-keeps (k + 1) (step_of ph w) (q.1 w))
+      (q.0, λ w. settled-keeps (k + 1) (stepOf ph w) (q.1 w))
 
   -- a start has asked nothing
   pub opening-keeps : Budget 0 (simplexSteps.opening o x)

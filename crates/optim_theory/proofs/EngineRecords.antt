@@ -14,12 +14,12 @@ use Rattle.protocol.specs.Protocol.{Answer, Reply, Job, simplex, bfgs, lbfgs, Fi
 use Rattle.protocol.specs.Dialogue.{accepted, Dialogue, called, give, giveAll, begin, run, NotRefused, Started}
 use Rattle.protocol.specs.Places.{Placed}
 use Rattle.optim_record.specs.declared.Record.{Record}
-use Rattle.optim_record.specs.Record.{simplexMark, searchMark, gradientJobOf, valid_of}
+use Rattle.optim_record.specs.Record.{simplexMark, searchMark, gradientJobOf, validOf}
 use Rattle.optim_reply.specs.Standing.{overOf, gradientDueOf, standingOf}
 use Rattle.optim_reply.proofs.Says.{stands-keeps}
 use Rattle.optim_first_record.specs.Starts.{simplexRefusalOf, simplexRecordOf, gradientRefusalOf, gradientRecordOf}
 use Rattle.optim_rules.specs.Rules.{repeatsOf, suitsOf}
-use Rattle.optim.specs.Answer.{steppedOf, gradedOf, taken_of, takenGradientOf, heardOf, answer_of}
+use Rattle.optim.specs.Answer.{steppedOf, gradedOf, takenOf, takenGradientOf, heardOf, answerOf}
 use Rattle.optim_start.specs.Start.{simplexOf, gradientOf, bfgsOf, lbfgsOf}
 use Rattle.optim_theory.specs.Engine.{startCode, answerCode, code, CodeInRange, GradientZeros, ZerosOf, Zeros}
 use Rattle.optim_theory.proofs.EngineRelated as simplexes
@@ -45,20 +45,20 @@ module _ (P : Record → Type 0) (keeps : (r : Record) (a : Answer) → P r → 
 pub record Has (n : ℕ) (r : Record) : Type 0 where
   pub unknowns : r.n ≡ n
 
-one_of : (n : ℕ) (b : Bool) {q r : Record} → Has n q → Has n r → Has n (cond b q r)
-one_of n true h k = h
-one_of n false h k = k
+one-of : (n : ℕ) (b : Bool) {q r : Record} → Has n q → Has n r → Has n (cond b q r)
+one-of n true h k = h
+one-of n false h k = k
 
 pub stepped-n : (n : ℕ) (r : Record) (v : Float) → Has n r → Has n (steppedOf r v)
 unfolding steppedOf
 stepped-n n r v h =
     let e = h.unknowns in
-    one_of n (eqb r.job simplexMark) (record { unknowns = e })
-    (one_of n (eqb r.job searchMark) (record { unknowns = e }) (one_of n (gradientJobOf r.job) (record { unknowns = e }) (record { unknowns = e })))
+    one-of n (eqb r.job simplexMark) (record { unknowns = e })
+    (one-of n (eqb r.job searchMark) (record { unknowns = e }) (one-of n (gradientJobOf r.job) (record { unknowns = e }) (record { unknowns = e })))
 
 pub graded-n : (n : ℕ) (r : Record) (g : List Float) → Has n r → Has n (gradedOf r g)
 unfolding gradedOf
-graded-n n r g h = let e = h.unknowns in one_of n (eqb r.job searchMark) (record { unknowns = e }) (record { unknowns = e })
+graded-n n r g h = let e = h.unknowns in one-of n (eqb r.job searchMark) (record { unknowns = e }) (record { unknowns = e })
 
 -- the record of a reply
 pub record HasBeside (n : ℕ) (y : Reply × Record) : Type 0 where
@@ -72,10 +72,10 @@ pub stands-n : (n : ℕ) (r : Record) → Has n r → HasBeside n (standingOf r)
 stands-n n r h = record { beside = subst (Has n) (sym (stands-keeps r)) h }
 
 pub answered-n : (n : ℕ) (r : Record) (a : Answer) → Has n r → HasBeside n (answerCode r a)
-unfolding answer_of heardOf taken_of takenGradientOf
+unfolding answerOf heardOf takenOf takenGradientOf
 answered-n n r a h =
     let w = a.words in
-    either n (valid_of r)
+    either n (validOf r)
     (either n (repeatsOf r.accepted a.number) (stands-n n r h)
     (either n (overOf r) (record { beside = h })
     (either n (not (eqb a.number (r.accepted + 1))) (record { beside = h })
@@ -129,7 +129,7 @@ abbrev Holds : Job → Allowances → List Float → List Answer → Type 0
 Holds j a x l =
     let f : Fit = record { job = j; allowances = a; x0 = x } in
     let r = (run code f l).recordNow in
-    Started code f → (valid_of r ≡ true) × ZerosOf j (length x) r
+    Started code f → (validOf r ≡ true) × ZerosOf j (length x) r
 
 along-n : (f : Fit) (l : List Answer) → Begins (length f.x0) (startCode f) → Started code f → (run code f l).recordNow.n ≡ length f.x0
 along-n f l h s = (along (Has (length f.x0)) (λ r a k. (answered-n (length f.x0) r a k).beside) (begin code f) l (h.begins s)).unknowns
@@ -142,7 +142,7 @@ simplex-holds o a x l s =
     (simplexAnswers.valid-of r t.0 t.1, subst (λ (n : ℕ). ZerosOf (simplex o) n r) (along-n f l (simplex-begins x o a) s) t.1.sound.zeros)
 
 -- of a record that is tied to a text
-descent-holds : (n : ℕ) (r : Record) → DescentTied r → r.n ≡ n → (valid_of r ≡ true) × GradientZeros n r
+descent-holds : (n : ℕ) (r : Record) → DescentTied r → r.n ≡ n → (validOf r ≡ true) × GradientZeros n r
 descent-holds n r t e =
     let S = t.1.sound in
     (descents.valid-of r t.0 t.1, subst (λ (k : ℕ). GradientZeros k r) e (record { descent = S.zeros; model = S.model-zeros }))

@@ -17,20 +17,20 @@ use Rattle.protocol.specs.declared.SimplexOptions.{SimplexOptions}
 use Rattle.protocol.specs.declared.Termination.{Termination}
 use Rattle.protocol.specs.declared.Termination.TheVariants.{GradientTolerance, SimplexTolerance, StepTolerance, FunctionTolerance, MaxIterations, MaxFevals, LineSearchFailed, GradientFailed, ObjectiveResolution}
 use Rattle.protocol.specs.Protocol.{converges, Result, fitted, Reply, ask, ended, refused}
-use Rattle.protocol.specs.Rounds.{atHead, stops, fails, FitLimits, result_at, questionAt}
+use Rattle.protocol.specs.Rounds.{atHead, stops, fails, FitLimits, resultAt, questionAt}
 use Rattle.protocol.specs.Places.{still, ends, Steps, Held, at, closed, Placed, placed, putTurn, mapTurn, Places, fitsSteps}
 use Rattle.neldermead_theory.specs.Algorithm.{SimplexPosition, nelderMead}
 use Rattle.quasinewton_theory.specs.Algorithm.{quasiNewton}
 use Rattle.optim_fits_theory.specs.Fits.{allFits}
-use Rattle.neldermead_theory.specs.Phases.{Phase, building, reflecting, expanding, outside, inside, shrinking, point_of, Move, simplexSteps}
+use Rattle.neldermead_theory.specs.Phases.{Phase, building, reflecting, expanding, outside, inside, shrinking, pointOf, Move, simplexSteps}
 use Rattle.neldermead.specs.Step.{byTolerance, byResolution, bySimplexIterations, bySimplexFevals, notFinite}
 use Rattle.neldermead_theory.specs.Counts.{byFevals}
 use Rattle.neldermead_theory.specs.Ties.{lowered}
-use Rattle.neldermead_theory.specs.Follows.{EveryPoint, SimplexShaped, mark_of, Related, Stopped, RelatedMove, SimplexAllows}
+use Rattle.neldermead_theory.specs.Follows.{EveryPoint, SimplexShaped, markOf, Related, Stopped, RelatedMove, SimplexAllows}
 use Rattle.optim_record.specs.declared.Record.{Record}
-use Rattle.optim_record.specs.Record.{simplexMark, most, mostAllowed, mostRestarts, lastAsking, lastPhase, fixed_of, valid_of}
+use Rattle.optim_record.specs.Record.{simplexMark, most, mostAllowed, mostRestarts, lastAsking, lastPhase, fixedOf, validOf}
 use Rattle.optim_record.proofs.Refusal1.{simplex-valid}
-use Rattle.optim_reply.specs.Standing.{terminationOf, result_of, standingSimplexOf, standingOf}
+use Rattle.optim_reply.specs.Standing.{terminationOf, resultOf, standingSimplexOf, standingOf}
 use Rattle.optim_theory.proofs.Textual.{textual}
 use Rattle.optim_theory.proofs.EngineBounded.{Within, Budget}
 
@@ -60,13 +60,13 @@ pub record Sound (r : Record) : Type 0 where
   pub gradients : r.counts.gevals ≡ 0
   pub shape : SimplexShaped r.n r.simplex
   pub zeros : EveryPoint (ZeroFrom r.n) r.simplex
-  pub within : Within (fixed_of r) r.simplex
+  pub within : Within (fixedOf r) r.simplex
   pub iter : r.limits.iter ≤ mostAllowed
   pub fevals : r.limits.fevals ≤ mostAllowed
   pub restarts : r.options.restarts ≤ mostRestarts
 
 -- the questions that the turn has still to put are within the bound of a start at x
-abbrev pub Left : (r : Record) (l : FitLimits) → SimplexAllows (fixed_of r) l → List Float → Move → Type 0
+abbrev pub Left : (r : Record) (l : FitLimits) → SimplexAllows (fixedOf r) l → List Float → Move → Type 0
 Left r l A x t = Budget r.limits.fevals r.options x l A.fevals r.accepted t
 
 -- the fit has ended, and y is its outcome
@@ -76,8 +76,8 @@ pub record Closed (r : Record) (y : Reply) : Type 0 where
   pub known : r.simplex.phase ≤ lastPhase
 
 -- the record is at the place, with questions left, or has ended
-abbrev pub HeldBy : (r : Record) (l : FitLimits) → SimplexAllows (fixed_of r) l → List Float → Held Place → Type 0
-HeldBy r l A x (at (inl ph)) = Related (fixed_of r) r.simplex ph × Left r l A x (still ph)
+abbrev pub HeldBy : (r : Record) (l : FitLimits) → SimplexAllows (fixedOf r) l → List Float → Held Place → Type 0
+HeldBy r l A x (at (inl ph)) = Related (fixedOf r) r.simplex ph × Left r l A x (still ph)
 HeldBy r l A x (at (inr s)) = ⊥
 HeldBy r l A x (closed y) = Closed r y
 
@@ -87,7 +87,7 @@ pub record Relates (r : Record) (s : Placed Place) : Type 0 where
   pub held : Held Place
   pub x0 : List Float
   pub long : length x0 ≡ r.n
-  pub allows : SimplexAllows (fixed_of r) limits
+  pub allows : SimplexAllows (fixedOf r) limits
   pub sound : Sound r
   pub holds : HeldBy r limits allows x0 held
   pub is : placed allFits allSteps limits r.accepted r.accepted 0 held ≡ s
@@ -108,7 +108,7 @@ bound-low M o x m r n = low (suc o.restarts * suc (length x)) (le_trans (mul-le-
     low k h = omega arith
 
 -- the marks of phases are those with an open question
-mark-low : (ph : Phase) → 1 ≤ mark_of ph
+mark-low : (ph : Phase) → 1 ≤ markOf ph
 mark-low (building p us x xs) = omega arith
 mark-low (reflecting p) = omega arith
 mark-low (expanding p w) = omega arith
@@ -116,7 +116,7 @@ mark-low (outside p w) = omega arith
 mark-low (inside p) = omega arith
 mark-low (shrinking p us x xs) = omega arith
 
-pub mark-asks : (ph : Phase) → mark_of ph ≤ lastAsking
+pub mark-asks : (ph : Phase) → markOf ph ≤ lastAsking
 mark-asks (building p us x xs) = omega arith
 mark-asks (reflecting p) = omega arith
 mark-asks (expanding p w) = omega arith
@@ -125,7 +125,7 @@ mark-asks (inside p) = omega arith
 mark-asks (shrinking p us x xs) = omega arith
 
 module _ (r : Record) (S : Sound r) where
-  in-range : 1 ≤ r.simplex.phase → r.simplex.phase ≤ lastPhase → valid_of r ≡ true
+  in-range : 1 ≤ r.simplex.phase → r.simplex.phase ≤ lastPhase → validOf r ≡ true
   in-range low high =
       simplex-valid r S.job
       (record { few = S.shape.small; accepted = S.numbers; fevals = rw S.values S.numbers; gevals = omega (arith, S.gradients) })
@@ -141,14 +141,14 @@ module _ (r : Record) (S : Sound r) where
         restarts = S.restarts;
       })
 
-  pub valid : (l : FitLimits) (A : SimplexAllows (fixed_of r) l) (x : List Float) (h : Held Place) → HeldBy r l A x h → valid_of r ≡ true
+  pub valid : (l : FitLimits) (A : SimplexAllows (fixedOf r) l) (x : List Float) (h : Held Place) → HeldBy r l A x h → validOf r ≡ true
   valid l A x (at (inl ph)) h = in-range (rw h.0.mark (mark-low ph)) (omega (arith, h.0.mark, mark-asks ph))
   valid l A x (at (inr s)) h = absurd h
   valid l A x (closed y) h = in-range (omega (arith, h.past)) h.known
 
   -- ---- it shows what the place shows
 
-  asks-as : (ph : Phase) → Related (fixed_of r) r.simplex ph → (standingOf r).0 ≡ ask (questionAt allFits r.accepted (allSteps.kind (inl ph)) (point_of ph))
+  asks-as : (ph : Phase) → Related (fixedOf r) r.simplex ph → (standingOf r).0 ≡ ask (questionAt allFits r.accepted (allSteps.kind (inl ph)) (pointOf ph))
   unfolding standingOf standingSimplexOf
   asks-as ph h =
       rw (eq-eqb r.job simplexMark S.job, le-leb r.simplex.phase lastAsking (rw h.mark (mark-asks ph)), add-one r.accepted, h.point)
@@ -158,48 +158,48 @@ module _ (r : Record) (S : Sound r) where
   fails-as e = rw (eq-eqb r.job simplexMark S.job, e)
 
   -- the result of a fit that has stopped is the one at the position
-  result_as : (k : ℕ) (y : Termination) (p : SimplexPosition) → r.simplex.phase ≡ k → terminationOf k ≡ y → eqb k byTolerance ≡ converges y
-      → p.iterations ≡ r.simplex.rounds → p.best ≡ lowered r.n r.simplex.best → result_of r ≡ result_at allFits y r.accepted 0 (inl p)
-  unfolding result_of
-  result_as k y p e t c i b = rw (e, t, c, S.values, S.gradients, i, b)
+  result-as : (k : ℕ) (y : Termination) (p : SimplexPosition) → r.simplex.phase ≡ k → terminationOf k ≡ y → eqb k byTolerance ≡ converges y
+      → p.iterations ≡ r.simplex.rounds → p.best ≡ lowered r.n r.simplex.best → resultOf r ≡ resultAt allFits y r.accepted 0 (inl p)
+  unfolding resultOf
+  result-as k y p e t c i b = rw (e, t, c, S.values, S.gradients, i, b)
 
   -- it shows this result, and no question
   abbrev Shows : Termination → SimplexPosition → Type 0
-  Shows y p = ((standingOf r).0 ≡ ended (fitted (result_at allFits y r.accepted 0 (inl p)))) × (lastAsking < r.simplex.phase) × (r.simplex.phase ≤ lastPhase)
+  Shows y p = ((standingOf r).0 ≡ ended (fitted (resultAt allFits y r.accepted 0 (inl p)))) × (lastAsking < r.simplex.phase) × (r.simplex.phase ≤ lastPhase)
 
   shows : (k : ℕ) (y : Termination) (p : SimplexPosition) → r.simplex.phase ≡ k → lastAsking < k → k < notFinite → terminationOf k ≡ y → eqb k byTolerance ≡ converges y
       → p.iterations ≡ r.simplex.rounds → p.best ≡ lowered r.n r.simplex.best → Shows y p
   unfolding standingOf standingSimplexOf
   shows k y p e past known t c i b = (
     rw (eq-eqb r.job simplexMark S.job, lt-leb r.simplex.phase lastAsking (rw e past), ne_eqb r.simplex.phase notFinite (λ m. omega arith))
-        (ap (λ (z : Result). ended (fitted z)) (result_as k y p e t c i b)),
+        (ap (λ (z : Result). ended (fitted z)) (result-as k y p e t c i b)),
     rw e past,
     omega arith,
   )
 
-  stops_as : (y : Termination) (p : SimplexPosition) → Stopped (fixed_of r) r.simplex y p → Shows y p
+  stops-as : (y : Termination) (p : SimplexPosition) → Stopped (fixedOf r) r.simplex y p → Shows y p
   unfolding terminationOf
-  stops_as SimplexTolerance p h = shows byTolerance _ p h.mark (omega arith) (omega arith) refl refl h.iterations h.best
-  stops_as ObjectiveResolution p h = shows byResolution _ p h.mark (omega arith) (omega arith) refl refl h.iterations h.best
-  stops_as MaxIterations p h = shows bySimplexIterations _ p h.mark (omega arith) (omega arith) refl refl h.iterations h.best
-  stops_as MaxFevals p h = shows bySimplexFevals _ p h.mark (omega arith) (omega arith) refl refl h.iterations h.best
-  stops_as GradientTolerance p h = absurd h.mark
-  stops_as StepTolerance p h = absurd h.mark
-  stops_as FunctionTolerance p h = absurd h.mark
-  stops_as LineSearchFailed p h = absurd h.mark
-  stops_as GradientFailed p h = absurd h.mark
+  stops-as SimplexTolerance p h = shows byTolerance _ p h.mark (omega arith) (omega arith) refl refl h.iterations h.best
+  stops-as ObjectiveResolution p h = shows byResolution _ p h.mark (omega arith) (omega arith) refl refl h.iterations h.best
+  stops-as MaxIterations p h = shows bySimplexIterations _ p h.mark (omega arith) (omega arith) refl refl h.iterations h.best
+  stops-as MaxFevals p h = shows bySimplexFevals _ p h.mark (omega arith) (omega arith) refl refl h.iterations h.best
+  stops-as GradientTolerance p h = absurd h.mark
+  stops-as StepTolerance p h = absurd h.mark
+  stops-as FunctionTolerance p h = absurd h.mark
+  stops-as LineSearchFailed p h = absurd h.mark
+  stops-as GradientFailed p h = absurd h.mark
 
-  module _ (l : FitLimits) (A : SimplexAllows (fixed_of r) l) (x : List Float) (long : length x ≡ r.n) where
+  module _ (l : FitLimits) (A : SimplexAllows (fixedOf r) l) (x : List Float) (long : length x ≡ r.n) where
     related : (h : Held Place) → HeldBy r l A x h → Relates r (placed allFits allSteps l r.accepted r.accepted 0 h)
     related h held = record { limits = l; held = h; x0 = x; long = long; allows = A; sound = S; holds = held; is = refl }
 
     -- a record at a turn shows what the turn shows, and stands for its record
-    pub put-related : (t : Move) → RelatedMove (fixed_of r) r.simplex t → Left r l A x t
+    pub put-related : (t : Move) → RelatedMove (fixedOf r) r.simplex t → Left r l A x t
         → ((standingOf r).0 ≡ (putMove l r.accepted t).0) × Relates r (putMove l r.accepted t).1
     put-related (still ph) h b = (asks-as ph h, related (at (inl ph)) (h, b))
     put-related (ends (atHead p)) h b = absurd h
     put-related (ends (stops y p)) h b =
-        let e = stops_as y p h in
+        let e = stops-as y p h in
         (e.0, related (closed _) (record { shown = sym e.0; past = e.1; known = e.2 }))
     put-related (ends (fails k d)) h b = (shows, related (closed _) (record { shown = sym shows; past = rw h.mark (omega arith); known = rw h.mark (omega arith) }))
       where

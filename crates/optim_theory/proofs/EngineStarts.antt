@@ -27,14 +27,14 @@ use Rattle.protocol.specs.Dialogue.{NotRefused}
 use Rattle.protocol.specs.Claim.{limit, orDefault}
 use Rattle.protocol.specs.PastLimits.{excess}
 use Rattle.protocol.specs.Rounds.{fails, FitLimits, limitsOf}
-use Rattle.protocol.specs.Places.{ends, Placed, putTurn, mapTurn, start_at}
+use Rattle.protocol.specs.Places.{ends, Placed, putTurn, mapTurn, startAt}
 use Rattle.neldermead_theory.specs.Algorithm.{nowhere, tolerance, positiveFinite}
 use Rattle.neldermead_theory.specs.Phases.{Move, buildAt, openingMove}
 use Rattle.neldermead_theory.specs.Follows.{RelatedMove, SimplexAllows}
 use Rattle.optim_fits_theory.specs.Fits.{allFits}
 use Rattle.neldermead_theory.proofs.Follows.{simplex-follows}
 use Rattle.optim_record.specs.declared.Record.{Record}
-use Rattle.optim_record.specs.Record.{mostAllowed, blankOf, fixed_of}
+use Rattle.optim_record.specs.Record.{mostAllowed, blankOf, fixedOf}
 use Rattle.optim_reply.specs.Standing.{refusedOf, standingOf}
 use Rattle.optim_reply.proofs.Says.{stands-keeps}
 use Rattle.optim_first_record.specs.Starts.{excessOf, pastLimitsOf, simplexRefusalOf, limitOf, simplexLimitsOf, simplexRecordOf}
@@ -147,7 +147,7 @@ module _ (o : SimplexOptions) (a : Allowances) (x : List Float) where
   abbrev made : Record
   made = simplexRecordOf point n o a
 
-  allows : SimplexAllows (fixed_of made) (limitsOf fit)
+  allows : SimplexAllows (fixedOf made) (limitsOf fit)
   unfolding simplexRecordOf simplexLimitsOf
   allows = let default = 200 * n * (1 + o.restarts) in record { iter = limit-as default a.iter; fevals = limit-as default a.fevals }
 
@@ -161,15 +161,15 @@ module _ (o : SimplexOptions) (a : Allowances) (x : List Float) where
         gradients = refl;
         shape = simplex-follows.start-shaped n point above small (point-laws.width (at x) n small);
         zeros = simplex-follows.start-zeros n point (λ k. point-laws.past (at x) n k);
-        within = start-within (fixed_of made) point;
+        within = start-within (fixedOf made) point;
         iter = limit-low n o.restarts small few a.iter p;
         fevals = limit-low n o.restarts small few a.fevals q;
         restarts = few;
       }
 
-  moves : RelatedMove (fixed_of made) made.simplex (buildAt (nowhere o x) x)
+  moves : RelatedMove (fixedOf made) made.simplex (buildAt (nowhere o x) x)
   unfolding simplexRecordOf
-  moves = subst (λ (z : List Float). RelatedMove (fixed_of made) made.simplex (buildAt (nowhere o z) z)) (whole x) (simplex-follows.starts (fixed_of made) point)
+  moves = subst (λ (z : List Float). RelatedMove (fixedOf made) made.simplex (buildAt (nowhere o z) z)) (whole x) (simplex-follows.starts (fixedOf made) point)
 
   begins : Sound made → openingMove o x ≡ buildAt (nowhere o x) x → Begun (standingOf made) (putMove (limitsOf fit) 0 (buildAt (nowhere o x) x))
   unfolding simplexRecordOf
@@ -178,7 +178,7 @@ module _ (o : SimplexOptions) (a : Allowances) (x : List Float) where
       let t = put-related made S (limitsOf fit) allows x refl (buildAt (nowhere o x) x) moves (rw opened at b) in
       (t.0, λ m. subst (λ (z : Record). Relates z (putMove (limitsOf fit) 0 (buildAt (nowhere o x) x)).1) (sym (stands-keeps made)) t.1)
 
-  pub simplex-starts : Begun (simplexOf x o a) (start_at allFits allSteps fit)
+  pub simplex-starts : Begun (simplexOf x o a) (startAt allFits allSteps fit)
   unfolding simplexOf simplexRefusalOf pastLimitsOf
   simplex-starts =
       rw (excess-as a.iter, excess-as a.fevals)

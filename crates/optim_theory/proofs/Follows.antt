@@ -20,7 +20,7 @@ use Rattle.objective.proofs.Follows.{follows}
 use Rattle.optim_record.specs.declared.Record.{Record}
 use Rattle.optim_record.specs.Record.{gradientJobOf, Other}
 use Rattle.optim_reply.specs.Standing.{standingDifferencesOf, standingOf}
-use Rattle.optim.specs.Answer.{valuedOf, steppedOf, taken_of}
+use Rattle.optim.specs.Answer.{valuedOf, steppedOf, takenOf}
 use Rattle.optim_first_record.specs.Starts.{begunRecordOf}
 use Rattle.optim_start.specs.Start.{differencesOf}
 use Rattle.optim_theory.specs.Jobs.{shown}
@@ -54,9 +54,9 @@ begins : (x : List Float) → rest (begunRecordOf x) ≡ differences asTold x
 unfolding begunRecordOf
 begins x = sym ((follows asTold).begins (length x) (fromSliceOf x (length x))) ∙ ap (differences asTold) (ties.from-slice x (length x) ∙ first-whole x)
 
-pub begun_sized : (x : List Float) → length x ≤ 16 → DifferencesSized (begunRecordOf x).n (begunRecordOf x).diff
+pub begun-sized : (x : List Float) → length x ≤ 16 → DifferencesSized (begunRecordOf x).n (begunRecordOf x).diff
 unfolding begunRecordOf fromSliceOf
-begun_sized x h = (follows asTold).begun_sized (length x) (fromSliceOf x (length x)) h (point-laws.width (at x) (length x) h)
+begun-sized x h = (follows asTold).begun-sized (length x) (fromSliceOf x (length x)) h (point-laws.width (at x) (length x) h)
 
 stepped-sized : (r : Record) (v : Float) → Other r → DifferencesSized r.n r.diff → (r.diff.at ≡ r.n → ⊥) → DifferencesSized (steppedOf r v).n (steppedOf r v).diff
 stepped-sized r v bare h d = subst (λ (q : Record). DifferencesSized q.n q.diff) (sym (steps r v bare)) ((follows asTold).told-sized r.n r.diff v h (short r h d))
@@ -76,7 +76,7 @@ stepped-other r v bare = subst Other (sym (steps r v bare)) (record { simplex = 
 
 starts : (x : List Float) → length x ≤ 16 → (differencesOf x).0 ≡ shown differencesEnding 0 (differences asTold x)
 unfolding differencesOf begunRecordOf
-starts x h = few (ltb 16 (length x)) refl ∙ stands (begunRecordOf x) (begun-other x) (begun_sized x h) ∙ ap (shown differencesEnding 0) (begins x)
+starts x h = few (ltb 16 (length x)) refl ∙ stands (begunRecordOf x) (begun-other x) (begun-sized x h) ∙ ap (shown differencesEnding 0) (begins x)
   where
     few : (b : Bool) → ltb 16 (length x) ≡ b → (differencesOf x).0 ≡ (standingOf (begunRecordOf x)).0
     few true e = absurd (over (ltb-true 16 (length x) e))
@@ -86,7 +86,7 @@ starts x h = few (ltb 16 (length x)) refl ∙ stands (begunRecordOf x) (begun-ot
     few false e = rw e
 
 pub job-follows : JobFollows
-unfolding taken_of
+unfolding takenOf
 job-follows = record {
   starts = starts;
   begins = begins;
@@ -96,6 +96,6 @@ job-follows = record {
       stands (steppedOf r v) (stepped-other r v bare) (stepped-sized r v bare h d) ∙ ap₂ (shown differencesEnding) (ap (λ (q : Record). q.accepted) (steps r v bare)) (takes r v bare h d);
   begun-other = begun-other;
   stepped-other = stepped-other;
-  begun_sized = begun_sized;
+  begun-sized = begun-sized;
   stepped-sized = stepped-sized;
 }

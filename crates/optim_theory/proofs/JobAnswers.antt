@@ -15,13 +15,13 @@ use Rattle.protocol.specs.Protocol.{letter, Answer, Reply, refused}
 use Rattle.protocol.specs.Dialogue.{wanted, ofKind}
 use Rattle.protocol.specs.Ask.{Ask, finish, query}
 use Rattle.optim_record.specs.declared.Record.{Record}
-use Rattle.optim_record.specs.Record.{valid_of}
+use Rattle.optim_record.specs.Record.{validOf}
 use Rattle.optim_reply.specs.Standing.{overOf, gradientDueOf, standingOf}
 use Rattle.optim_reply.proofs.Says.{stands-keeps}
 use Rattle.optim_rules.specs.Rules.{repeatsOf, suitsOf}
-use Rattle.optim.specs.Answer.{steppedOf, gradedOf, taken_of, takenGradientOf, heardOf, answer_of}
+use Rattle.optim.specs.Answer.{steppedOf, gradedOf, takenOf, takenGradientOf, heardOf, answerOf}
 use Rattle.optim_theory.specs.Engine.{answerCode}
-use Rattle.optim_theory.specs.Jobs.{Text, last_of, shown, acceptedBy, freshBy, answerBy}
+use Rattle.optim_theory.specs.Jobs.{Text, lastOf, shown, acceptedBy, freshBy, answerBy}
 
 -- the record after the words w of an answer to the open question
 abbrev pub next : Record → List Float → Record
@@ -55,9 +55,9 @@ module _ {A : Type 0} (ending : A → Reply) (Related : Record → Text A → Ty
     pub over : overOf r ≡ true
 
   pub record JobTies : Type 0 where
-    pub valid : (r : Record) (t : Text A) → Related r t → valid_of r ≡ true
-    pub numbers : (r : Record) (t : Text A) → Related r t → r.accepted ≡ last_of t
-    pub stands : (r : Record) (t : Text A) → Related r t → (standingOf r).0 ≡ shown ending (last_of t) t.rest
+    pub valid : (r : Record) (t : Text A) → Related r t → validOf r ≡ true
+    pub numbers : (r : Record) (t : Text A) → Related r t → r.accepted ≡ lastOf t
+    pub stands : (r : Record) (t : Text A) → Related r t → (standingOf r).0 ≡ shown ending (lastOf t) t.rest
     pub state : (r : Record) (t : Text A) → Related r t → Asking r t ⊎ Over r t
 
   module _ (J : JobTies) (r : Record) (t : Text A) (a : Answer) (R : Related r t) where
@@ -84,7 +84,7 @@ module _ {A : Type 0} (ending : A → Reply) (Related : Record → Text A → Ty
         go true = refl
         go false = refl
 
-    repeated : Same (standingOf r) (shown ending (last_of t) t.rest, t)
+    repeated : Same (standingOf r) (shown ending (lastOf t) t.rest, t)
     repeated = record { replies = J.stands r t R; relates = subst (λ (q : Record). Related q t) (sym (stands-keeps r)) R; stays = λ e. stands-keeps r }
 
     -- not a repeat, as the code has it
@@ -93,7 +93,7 @@ module _ {A : Type 0} (ending : A → Reply) (Related : Record → Text A → Ty
         cond (overOf r) (refused 15 0, r)
         (cond (not (eqb a.number (r.accepted + 1))) (refused 16 0, r)
         (cond (not (suitsOf r a.kind (length a.words))) (refused 17 0, r)
-        (cond (gradientDueOf r) (takenGradientOf r (fromSliceOf a.words r.n)) (taken_of r (get_or a.words 0 nan)))))
+        (cond (gradientDueOf r) (takenGradientOf r (fromSliceOf a.words r.n)) (takenOf r (get_or a.words 0 nan)))))
 
     closed : Over r t → Same fresh (freshBy ending t t.rest a)
     closed e = rw e.over (subst (λ (m : Ask A). Same (refused 15 0, r) (freshBy ending t m a)) (sym e.rest) (unmoved (refused 15 0)))
@@ -113,27 +113,27 @@ module _ {A : Type 0} (ending : A → Reply) (Related : Record → Text A → Ty
           go Gradient = each (eqb k 71) (eqb n r.n) ∙ ap (λ (c : ℕ). not (eqb k 71 && eqb n c)) (sym o.long)
           go Value = each (eqb k 86) (eqb n 1)
 
-      taken_as : (w : List Float) → cond (gradientDueOf r) (takenGradientOf r (fromSliceOf w r.n)) (taken_of r (get_or w 0 nan)) ≡ standingOf (next r w)
-      unfolding taken_of takenGradientOf
-      taken_as w = go (gradientDueOf r)
+      taken-as : (w : List Float) → cond (gradientDueOf r) (takenGradientOf r (fromSliceOf w r.n)) (takenOf r (get_or w 0 nan)) ≡ standingOf (next r w)
+      unfolding takenOf takenGradientOf
+      taken-as w = go (gradientDueOf r)
         where
-          go : (b : Bool) → cond b (takenGradientOf r (fromSliceOf w r.n)) (taken_of r (get_or w 0 nan)) ≡ standingOf (cond b (gradedOf r (fromSliceOf w r.n)) (steppedOf r (get_or w 0 nan)))
+          go : (b : Bool) → cond b (takenGradientOf r (fromSliceOf w r.n)) (takenOf r (get_or w 0 nan)) ≡ standingOf (cond b (gradedOf r (fromSliceOf w r.n)) (steppedOf r (get_or w 0 nan)))
           go true = refl
           go false = refl
 
-      one_more : (v g : ℕ) (k : Kind) → v + ofKind Value k + (g + ofKind Gradient k) ≡ v + g + 1
-      one_more v g Value = omega arith
-      one_more v g Gradient = omega arith
+      one-more : (v g : ℕ) (k : Kind) → v + ofKind Value k + (g + ofKind Gradient k) ≡ v + g + 1
+      one-more v g Value = omega arith
+      one-more v g Gradient = omega arith
 
       -- an accepted answer raises the number last accepted
       taken : (w : List Float) → Same (standingOf (next r w)) (acceptedBy ending t o.kind (o.then w))
       taken w =
           let q = next r w in
-          let more = one_more t.values t.gradients o.kind in
+          let more = one-more t.values t.gradients o.kind in
           record {
             replies = J.stands q (onward t o.kind (o.then w)) (o.leads w) ∙ ap (λ (k : ℕ). shown ending k (o.then w)) more;
             relates = subst (λ (z : Record). Related z (onward t o.kind (o.then w))) (sym (stands-keeps q)) (o.leads w);
-            stays = λ e. absurd (clash (last_of t) (sym (ap last_of e) ∙ more));
+            stays = λ e. absurd (clash (lastOf t) (sym (ap lastOf e) ∙ more));
           }
         where
           clash : (k : ℕ) → k ≡ k + 1 → ⊥
@@ -141,7 +141,7 @@ module _ {A : Type 0} (ending : A → Reply) (Related : Record → Text A → Ty
 
       due : Same fresh (freshBy ending t t.rest a)
       due =
-          rw (o.stands-open, taken_as a.words)
+          rw (o.stands-open, taken-as a.words)
           (subst (λ (m : Ask A).
           Same
           (cond (not (eqb a.number (r.accepted + 1))) (refused 16 0, r)
@@ -152,10 +152,10 @@ module _ {A : Type 0} (ending : A → Reply) (Related : Record → Text A → Ty
           (both (not (suitsOf r a.kind (length a.words))) _ _ _ _ _ (suits-as a.kind (length a.words)) (unmoved (refused 17 0)) (taken a.words))))
 
     answered-by : Same (answerCode r a) (answerBy ending t a)
-    unfolding answer_of heardOf
+    unfolding answerOf heardOf
     answered-by =
         rw (J.valid r t R)
-        (both (repeatsOf r.accepted a.number) _ _ _ _ _ (repeats-as r.accepted a.number (last_of t) (J.numbers r t R)) repeated (⊎_elim due closed (J.state r t R)))
+        (both (repeatsOf r.accepted a.number) _ _ _ _ _ (repeats-as r.accepted a.number (lastOf t) (J.numbers r t R)) repeated (⊎_elim due closed (J.state r t R)))
 
     pub answers : ((answerCode r a).0 ≡ (answerBy ending t a).0) × Related (answerCode r a).1 (answerBy ending t a).1 × ((answerBy ending t a).1 ≡ t → (answerCode r a).1 ≡ r)
     answers = (answered-by.replies, answered-by.relates, answered-by.stays)

@@ -27,19 +27,19 @@ use Rattle.optim_theory.specs.JobExamples.{infinity, JobsComputed}
 
 pub jobs-computed : JobsComputed
 unfolding to_bits of_bits of_fields of_int span climb size odd units round neg is_nan sum add sub mul div lt le eq values.absOf values.finiteOf
-    values.toleranceOf values.positiveOf values.max_of values.minOf order.precedesOf order.key_of points.fromSliceOf points.infNormOf points.allFiniteOf
-    points.plusScaledOf points.differenceOf points.additionOf points.scaledOf points.dotOf lists.first protocol.read_of differences.differenceStep differences.forwardOf
-    differences.backwardOf differences.slopeAt objective.begunOf objective.probeOf objective.toldOf records.gradientJobOf records.validSimplexOf records.valid_of
+    values.toleranceOf values.positiveOf values.maxOf values.minOf order.precedesOf order.keyOf points.fromSliceOf points.infNormOf points.allFiniteOf
+    points.plusScaledOf points.differenceOf points.additionOf points.scaledOf points.dotOf lists.first protocol.readOf differences.differenceStep differences.forwardOf
+    differences.backwardOf differences.slopeAt objective.begunOf objective.probeOf objective.toldOf records.gradientJobOf records.validSimplexOf records.validOf
     stands.overOf stands.gradientDueOf stands.standingSimplexOf stands.standingDifferencesOf stands.standingOf firsts.begunRecordOf firsts.excessOf
     firsts.pastLimitsOf firsts.simplexRefusalOf firsts.limitOf firsts.simplexLimitsOf firsts.simplexRecordOf rules.repeatsOf rules.suitsOf answers.steppedOf
-    answers.taken_of answers.heardOf answers.answer_of starts.differencesOf starts.simplexOf vertexOrder.inOrder method.beta method.gamma method.delta
-    method.displaced method.resolution method.better vertices.put_of vertices.insertedOf vertices.sortedOf vertices.cornerOf vertices.anyFiniteOf
-    trials.start_of trials.armijoOf trials.curvatureOf lines.lineFromOf lines.optionsRefusalOf lines.countsRefusalOf lines.lineRefusalOf linesearch.pointAtOf
+    answers.takenOf answers.heardOf answers.answerOf starts.differencesOf starts.simplexOf vertexOrder.inOrder method.beta method.gamma method.delta
+    method.displaced method.resolution method.better vertices.putOf vertices.insertedOf vertices.sortedOf vertices.cornerOf vertices.anyFiniteOf
+    trials.startOf trials.armijoOf trials.curvatureOf lines.lineFromOf lines.optionsRefusalOf lines.countsRefusalOf lines.lineRefusalOf linesearch.pointAtOf
     linesearch.evaluatedOf linesearch.precedingOf linesearch.risenOf linesearch.lowerOf linesearch.keepOf linesearch.successOf linesearch.evalOf
-    linesearch.bracket_of linesearch.bracketedOf linesearch.decidedOf linesearch.gradedOf linesearch.evalGradientOf linesearch.valuedOf linesearch.begunOf
+    linesearch.bracketOf linesearch.bracketedOf linesearch.decidedOf linesearch.gradedOf linesearch.evalGradientOf linesearch.valuedOf linesearch.begunOf
     linesearch.probeOf linesearch.toldOf linesearch.toldGradientOf records.wolfeOptionsOf records.validSearchPartOf records.validSearchOf stands.searchResultOf
     stands.standingSearchOf firsts.searchPastLimitsOf firsts.searchRefusalOf firsts.begunSearchOf firsts.searchRecordOf answers.gradedOf answers.takenGradientOf
-    starts.searchOf neldermead.orderedOf neldermead.buildOf neldermead.settled_of neldermead.builtOf neldermead.toldOf neldermead.start_of
+    starts.searchOf neldermead.orderedOf neldermead.buildOf neldermead.settledOf neldermead.builtOf neldermead.toldOf neldermead.startOf
 jobs-computed =
     record {
       differences-starts = tt;

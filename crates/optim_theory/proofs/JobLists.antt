@@ -9,7 +9,7 @@ use Rattle.protocol.specs.Follow.{Follows, Alike}
 use Rattle.protocol.proofs.Follow.{alike}
 use Rattle.optim_record.specs.declared.Record.{Record}
 use Rattle.optim_theory.specs.Engine.{answerCode}
-use Rattle.optim_theory.specs.Jobs.{Text, shown, begunBy, answerBy, job_of, runJob}
+use Rattle.optim_theory.specs.Jobs.{Text, shown, begunBy, answerBy, jobOf, runJob}
 use Rattle.optim_theory.proofs.JobAnswers.{JobTies, answers}
 
 -- y is the start of the job whose text is m
@@ -30,14 +30,14 @@ module _ {A : Type 0} (ending : A → Reply) (Related : Record → Text A → Ty
 
   -- accepted or not, the record is the one that came back
   given-on : (d : Dialogue Record) (a : Answer) (t : Text A) (b : Bool) → Related (answerCode d.recordNow a).1 t
-      → Related (called (job_of y answerCode) d a b (answerCode d.recordNow a)).recordNow t
+      → Related (called (jobOf y answerCode) d a b (answerCode d.recordNow a)).recordNow t
   given-on d a t true h = h
   given-on d a t false h = h
 
-  along : (d : Dialogue Record) (t : Text A) (l : List Answer) → Related d.recordNow t → (q : Text A) × Related (giveAll (job_of y answerCode) d l).recordNow q
+  along : (d : Dialogue Record) (t : Text A) (l : List Answer) → Related d.recordNow t → (q : Text A) × Related (giveAll (jobOf y answerCode) d l).recordNow q
   along d t [] h = (t, h)
   along d t (a ∷ l) h =
-      along (give (job_of y answerCode) d a) (answerBy ending t a).1 l (given-on d a _ (accepted d.standing a) (answers ending Related J d.recordNow t a h).1)
+      along (give (jobOf y answerCode) d a) (answerBy ending t a).1 l (given-on d a _ (accepted d.standing a) (answers ending Related J d.recordNow t a h).1)
 
   pub reached : (l : List Answer) → (q : Text A) × Related (runJob y answerCode l).recordNow q
   reached l = along _ _ l (begun.1 n)

@@ -20,13 +20,13 @@ use Rattle.linesearch.specs.Step as linesearch
 use Rattle.quasinewton.specs.Step as quasinewton
 use Rattle.neldermead.specs.Step.{notFinite}
 use Rattle.optim_record.specs.declared.Record.{Record}
-use Rattle.optim_record.specs.Record.{simplexMark, searchMark, lastAsking, gradientJobOf, valid_of}
-use Rattle.optim_reply.specs.Standing.{overOf, gradientDueOf, result_of, standingSimplexOf, searchResultOf, standingSearchOf, descentResultOf, standingDescentOf, standingDifferencesOf, standingOf}
+use Rattle.optim_record.specs.Record.{simplexMark, searchMark, lastAsking, gradientJobOf, validOf}
+use Rattle.optim_reply.specs.Standing.{overOf, gradientDueOf, resultOf, standingSimplexOf, searchResultOf, standingSearchOf, descentResultOf, standingDescentOf, standingDifferencesOf, standingOf}
 use Rattle.optim_first_record.specs.Starts.{begunRecordOf, simplexRefusalOf, simplexRecordOf, gradientRefusalOf, gradientRecordOf, searchRefusalOf, searchRecordOf}
 use Rattle.optim_rules.specs.Rules.{repeatsOf, suitsOf}
-use Rattle.optim.specs.Answer.{steppedOf, gradedOf, taken_of, takenGradientOf, heardOf, answer_of}
+use Rattle.optim.specs.Answer.{steppedOf, gradedOf, takenOf, takenGradientOf, heardOf, answerOf}
 use Rattle.optim_start.specs.Start.{differencesOf, simplexOf, searchOf, gradientOf, bfgsOf, lbfgsOf}
-use Rattle.optim_theory.specs.Engine.{start_by, startCode, answerCode}
+use Rattle.optim_theory.specs.Engine.{startBy, startCode, answerCode}
 use Rattle.optim_theory.specs.Examples.{sample}
 use Rattle.optim_theory.specs.Search.{SearchStart, searchCode}
 use Rattle.optim_theory.specs.Lengths.{PointsOf, AllOf, Lengths}
@@ -46,7 +46,7 @@ refuses n k d r = record { points = tt }
 
 -- what stands in any record
 stands : (r : Record) → Pointed r.n (standingOf r)
-unfolding standingOf standingSimplexOf standingSearchOf standingDescentOf standingDifferencesOf result_of searchResultOf descentResultOf
+unfolding standingOf standingSimplexOf standingSearchOf standingDescentOf standingDifferencesOf resultOf searchResultOf descentResultOf
 stands r =
     let n = r.n in
     let s = r.descent.search in
@@ -61,21 +61,21 @@ stands r =
     (either n (eqb r.descent.phase quasinewton.byRefusal) (refuses n r.descent.number r.descent.detail r) (record { points = listed _ })))
     (either n (eqb r.diff.at n) (record { points = listed _ }) (asks _ (listed _)))))
 
-of_length : (n : ℕ) (r : Record) → Has n r → Pointed n (standingOf r)
-of_length n r h = subst (λ (k : ℕ). Pointed k (standingOf r)) h.unknowns (stands r)
+of-length : (n : ℕ) (r : Record) → Has n r → Pointed n (standingOf r)
+of-length n r h = subst (λ (k : ℕ). Pointed k (standingOf r)) h.unknowns (stands r)
 
 answered : (n : ℕ) (r : Record) (a : Answer) → Has n r → Pointed n (answerCode r a)
-unfolding answer_of heardOf taken_of takenGradientOf
+unfolding answerOf heardOf takenOf takenGradientOf
 answered n r a h =
     let w = a.words in
     let g = fromSliceOf w r.n in
     let v = get_or w 0 nan in
-    either n (valid_of r)
-    (either n (repeatsOf r.accepted a.number) (of_length n r h)
+    either n (validOf r)
+    (either n (repeatsOf r.accepted a.number) (of-length n r h)
     (either n (overOf r) (refuses n 15 0 r)
     (either n (not (eqb a.number (r.accepted + 1))) (refuses n 16 0 r)
     (either n (not (suitsOf r a.kind (length w))) (refuses n 17 0 r)
-    (either n (gradientDueOf r) (of_length n (gradedOf r g) (graded-n n r g h)) (of_length n (steppedOf r v) (stepped-n n r v h)))))))
+    (either n (gradientDueOf r) (of-length n (gradedOf r g) (graded-n n r g h)) (of-length n (steppedOf r v) (stepped-n n r v h)))))))
     (refuses n 1 0 r)
 
 -- ---- a list
@@ -84,8 +84,8 @@ module _ (start : Fit → Reply × Record) where
   abbrev E : Engine
   E = record { Record = Record; start = start; answer = answerCode }
 
-  one_more : {A : Type 0} (P : A → Type 0) (xs ys : List A) → ((x : A) → Memᴰ x xs → P x) → ((x : A) → Memᴰ x ys → P x) → (x : A) → Memᴰ x (xs ++ ys) → P x
-  one_more P xs ys h k x m = ⊎_elim (h x) (k x) (Memᴰ.append_cases xs m)
+  one-more : {A : Type 0} (P : A → Type 0) (xs ys : List A) → ((x : A) → Memᴰ x xs → P x) → ((x : A) → Memᴰ x ys → P x) → (x : A) → Memᴰ x (xs ++ ys) → P x
+  one-more P xs ys h k x m = ⊎_elim (h x) (k x) (Memᴰ.append_cases xs m)
 
   alone : (n : ℕ) (z y : Reply) → PointsOf n z → Memᴰ y (z ∷ []) → PointsOf n y
   alone n z y h m = ⊎_elim (λ e. subst (PointsOf n) (sym e) h) (λ i. absurd (Memᴰ.not-nil i)) (Memᴰ.cases_cons m)
@@ -104,14 +104,14 @@ module _ (start : Fit → Reply × Record) where
       record {
         has = h;
         all = record {
-          replies = one_more (PointsOf n) d.replies (z.0 ∷ []) g.all.replies (λ y. alone n z.0 y p);
-          questions = one_more (λ (q : Question). length q.point ≡ n) d.questions (questionIn z.0) g.all.questions (asked n z.0 p);
+          replies = one-more (PointsOf n) d.replies (z.0 ∷ []) g.all.replies (λ y. alone n z.0 y p);
+          questions = one-more (λ (q : Question). length q.point ≡ n) d.questions (questionIn z.0) g.all.questions (asked n z.0 p);
         };
       }
   given n d a false z h p g =
       record {
         has = h;
-        all = record { replies = one_more (PointsOf n) d.replies (z.0 ∷ []) g.all.replies (λ y. alone n z.0 y p); questions = g.all.questions };
+        all = record { replies = one-more (PointsOf n) d.replies (z.0 ∷ []) g.all.replies (λ y. alone n z.0 y p); questions = g.all.questions };
       }
 
   along : (n : ℕ) (d : Dialogue Record) (l : List Answer) → Good n d → Good n (giveAll E d l)
@@ -120,8 +120,8 @@ module _ (start : Fit → Reply × Record) where
       let r = d.recordNow in
       along n (give E d a) l (given n d a (accepted d.standing a) (answerCode r a) (answered-n n r a g.has).beside (answered n r a g.has).points g)
 
-  from_start : (n : ℕ) (f : Fit) (l : List Answer) → Begins n (start f) → Pointed n (start f) → NotRefused (start f).0 → AllOf n (run E f l)
-  from_start n f l b p s =
+  from-start : (n : ℕ) (f : Fit) (l : List Answer) → Begins n (start f) → Pointed n (start f) → NotRefused (start f).0 → AllOf n (run E f l)
+  from-start n f l b p s =
       (along n (begin E f) l
       (record { has = b.begins s; all = record { replies = λ y. alone n (start f).0 y p.points; questions = asked n (start f).0 p.points } })).all
 
@@ -129,7 +129,7 @@ module _ (start : Fit → Reply × Record) where
 
 -- two tests that refuse, and then what stands
 two : (n : ℕ) (b c : Bool) {y z : Reply × Record} (r : Record) → Pointed n y → Pointed n z → Has n r → Pointed n (cond b y (cond c z (standingOf r)))
-two n b c r p q h = either n b p (either n c q (of_length n r h))
+two n b c r p q h = either n b p (either n c q (of-length n r h))
 
 simplex-points : (x : List Float) (o : SimplexOptions) (a : Allowances) → Pointed (length x) (simplexOf x o a)
 unfolding simplexOf simplexRecordOf
@@ -156,7 +156,7 @@ search-points s =
 
 differences-points : (x : List Float) → Pointed (length x) (differencesOf x)
 unfolding differencesOf begunRecordOf
-differences-points x = either (length x) (ltb 16 (length x)) (refuses (length x) 2 0 _) (of_length (length x) (begunRecordOf x) (record { unknowns = refl }))
+differences-points x = either (length x) (ltb 16 (length x)) (refuses (length x) 2 0 _) (of-length (length x) (begunRecordOf x) (record { unknowns = refl }))
 
 search-begins : (s : SearchStart) → Begins (length s.x) (searchCode s)
 unfolding searchOf searchRecordOf
@@ -172,7 +172,7 @@ unfolding differencesOf begunRecordOf
 differences-begins x =
     unless (length x) (ltb 16 (length x)) (record { begins = λ h. absurd h }) (record { begins = λ h. (stands-n (length x) (begunRecordOf x) (record { unknowns = refl })).beside })
 
-fit-starts : (j : Job) (x : List Float) (a : Allowances) → Begins (length x) (start_by j x a) × Pointed (length x) (start_by j x a)
+fit-starts : (j : Job) (x : List Float) (a : Allowances) → Begins (length x) (startBy j x a) × Pointed (length x) (startBy j x a)
 unfolding bfgsOf lbfgsOf
 fit-starts (simplex o) x a = (simplex-begins x o a, simplex-points x o a)
 fit-starts (bfgs o) x a = (gradient-begins x o a false, gradient-points x o a false)
@@ -182,7 +182,7 @@ fit-starts (lbfgs o) x a = (gradient-begins x o a true, gradient-points x o a tr
 pub lengths : Lengths
 lengths =
     record {
-      fits = λ f l s. let t = fit-starts f.job f.x0 f.allowances in from_start startCode (length f.x0) f l t.0 t.1 s;
-      search = λ s l n. from_start (λ f. searchCode s) (length s.x) (sample 0) l (search-begins s) (search-points s) n;
-      differences = λ x l n. from_start (λ f. differencesOf x) (length x) (sample 0) l (differences-begins x) (differences-points x) n;
+      fits = λ f l s. let t = fit-starts f.job f.x0 f.allowances in from-start startCode (length f.x0) f l t.0 t.1 s;
+      search = λ s l n. from-start (λ f. searchCode s) (length s.x) (sample 0) l (search-begins s) (search-points s) n;
+      differences = λ x l n. from-start (λ f. differencesOf x) (length x) (sample 0) l (differences-begins x) (differences-points x) n;
     }

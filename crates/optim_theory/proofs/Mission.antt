@@ -6,7 +6,7 @@ use mathlib.Core.List.{List, [], ◌∷◌, ◌++◌, append_assoc, append-nil, 
 use lib.Ieee.{Float}
 use Rattle.float.specs.Binary64.{NotAbove}
 use Rattle.protocol.specs.declared.Kind.TheVariants.{Value}
-use Rattle.protocol.specs.Protocol.{Question, Answer, Result, fitted, Reply, ask, ended, refused, read_of, Fit}
+use Rattle.protocol.specs.Protocol.{Question, Answer, Result, fitted, Reply, ask, ended, refused, readOf, Fit}
 use Rattle.protocol.specs.Dialogue.{accepted, Exchange, exchange, questionIn, Dialogue, called, giveAll, begin, run, Brings}
 use Rattle.protocol.specs.Claim.{IsSimplex, RunsAgain, ByPointAlone, OpensWith, OfOne}
 use Rattle.optim_record.specs.declared.Record.{Record}
@@ -96,9 +96,9 @@ heard-from (c ∷ cs) e m =
 abbrev exchangeOf : Question → Call → Exchange
 exchangeOf q c = record { question = q; words = c.answer.words }
 
-one_in : (c : Call) (q : Question) → c.stood ≡ ask q → accepted c.stood c.answer ≡ true
+one-in : (c : Call) (q : Question) → c.stood ≡ ask q → accepted c.stood c.answer ≡ true
     → Memᴰ (exchangeOf q c) (cond (accepted c.stood c.answer) (exchange c.stood c.answer) [])
-one_in c q i j =
+one-in c q i j =
     subst (λ (b : Bool). Memᴰ (exchangeOf q c) (cond b (exchange c.stood c.answer) [])) (sym j)
     (subst (λ (y : Reply). Memᴰ (exchangeOf q c) (exchange y c.answer)) (sym i) (mathlib.Core.List.Memᴰ.head refl))
 
@@ -106,7 +106,7 @@ heard-in : (cs : List Call) (c : Call) (q : Question) → Memᴰ c cs → c.stoo
 heard-in [] c q m i j = absurd (mathlib.Core.List.Memᴰ.not-nil m)
 heard-in (d ∷ cs) c q m i j =
     ⊎_elim
-    (λ k. mathlib.Core.List.Memᴰ.append_left (heardIn cs) (subst (λ (z : Call). Memᴰ (exchangeOf q c) (cond (accepted z.stood z.answer) (exchange z.stood z.answer) [])) k (one_in c q i j)))
+    (λ k. mathlib.Core.List.Memᴰ.append_left (heardIn cs) (subst (λ (z : Call). Memᴰ (exchangeOf q c) (cond (accepted z.stood z.answer) (exchange z.stood z.answer) [])) k (one-in c q i j)))
     (λ k. mathlib.Core.List.Memᴰ.append_right (cond (accepted d.stood d.answer) (exchange d.stood d.answer) []) (heard-in cs c q k i j))
     (mathlib.Core.List.Memᴰ.cases_cons m)
 
@@ -120,8 +120,8 @@ module _ (f : Fit) (l : List Answer) where
   heard-as : (run code f l).exchanges ≡ heardIn (calls f l)
   heard-as = (comes (begin code f) l).heard
 
-  put_as : (run code f l).questions ≡ questions f l
-  put_as = (comes (begin code f) l).put
+  put-as : (run code f l).questions ≡ questions f l
+  put-as = (comes (begin code f) l).put
 
   brought : (r : Result) → spelled.CallsBring (calls f l) r → Brings (run code f l) r
   brought r b =
@@ -130,18 +130,18 @@ module _ (f : Fit) (l : List Answer) where
       subst (λ (ys : List Reply). Memᴰ (ended (fitted r)) ys) (sym (comes (begin code f) l).said) (mathlib.Core.List.Memᴰ.append_right ((startCode f).0 ∷ []) k)
 
   module _ (r : Result) (E : CallsEnd f l r) where
-    of_one : OfOne f (run code f l).exchanges r
-    of_one = code-claim.one f l r E.started E.words (brought r E.brings)
+    of-one : OfOne f (run code f l).exchanges r
+    of-one = code-claim.one f l r E.started E.words (brought r E.brings)
 
     told : (c : Call) × Memᴰ c (calls f l) × Tells c Value r.x (r.f ∷ [])
     told =
-        let t = of_one.told in
+        let t = of-one.told in
         let h = heard-from (calls f l) t.0 (subst (λ (es : List Exchange). Memᴰ t.0 es) heard-as t.1) in
         (h.0, h.1, record { question = t.0.question; stood = h.2.stood; accepts = h.2.accepts; kind = t.2; point = t.3; words = h.2.words ∙ t.4 })
 
-    least : IsSimplex f.job → (c : Call) (x : List Float) (v : Float) → Memᴰ c (calls f l) → Tells c Value x (v ∷ []) → NotAbove r.f (read_of v)
+    least : IsSimplex f.job → (c : Call) (x : List Float) (v : Float) → Memᴰ c (calls f l) → Tells c Value x (v ∷ []) → NotAbove r.f (readOf v)
     least i c x v m t =
-        of_one.least i x v (
+        of-one.least i x v (
           exchangeOf t.question c,
           subst (λ (es : List Exchange). Memᴰ (exchangeOf t.question c) es) (sym heard-as) (heard-in (calls f l) c t.question m t.stood t.accepts),
           t.kind,
@@ -169,7 +169,7 @@ by-point f g l m one d e i j k p =
 both : (f g : Fit) (l m : List Answer) (r s : Result) → CallsEnd f l r → CallsEnd g m s → RunsAgain f g → OneObjective (calls f l ++ calls g m) → Both f g l m r s
 both f g l m r s E F again one =
     let z = code-claim.two f g l m r s E.started F.started E.words F.words again (by-point f g l m one) (brought f l r E.brings) (brought g m s F.brings) in
-    record { opens = subst₂ (λ (ps qs : List Question). OpensWith ps qs) (put_as g m) (put_as f l) z.opens; no-larger = z.no-larger; same = z.equal }
+    record { opens = subst₂ (λ (ps qs : List Question). OpensWith ps qs) (put-as g m) (put-as f l) z.opens; no-larger = z.no-larger; same = z.equal }
 
-pub spelled_out : Mission
-spelled_out = record { told = told; least = least; again = both }
+pub spelled-out : Mission
+spelled-out = record { told = told; least = least; again = both }

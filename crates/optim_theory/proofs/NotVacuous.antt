@@ -8,7 +8,7 @@ use Rattle.protocol.specs.declared.Kind.{Kind}
 use Rattle.protocol.specs.declared.Kind.TheVariants.{Value, Gradient}
 use Rattle.protocol.specs.Dialogue.{run, Started}
 use Rattle.protocol.specs.Example.{Reaches, Pair, given, absent}
-use Rattle.protocol.proofs.NotVacuous.{of_one, of_two, AnsweredBy, one-objective, third, fifth, word}
+use Rattle.protocol.proofs.NotVacuous.{of-one, of-two, AnsweredBy, one-objective, third, fifth, word}
 use Rattle.float.specs.Values as values
 use Rattle.vector.specs.Points as points
 use Rattle.vector.specs.Lists as lists
@@ -57,30 +57,30 @@ record Facts : Type 0 where
 
 facts : Facts
 unfolding to_bits of_bits of_fields of_int span climb size odd units round neg is_nan sum add sub mul div lt le eq values.absOf values.finiteOf
-    values.toleranceOf values.positiveOf values.max_of values.minOf points.fromSliceOf points.dotOf points.infNormOf points.allFiniteOf
-    points.plusScaledOf points.minusScaledOf points.differenceOf points.additionOf points.quotient_of points.scaledOf points.negationOf
-    points.towardsOf points.rowDotOf points.matVecOf lists.first protocol.read_of records.wolfeOptionsOf records.idleOf records.blankOf
+    values.toleranceOf values.positiveOf values.maxOf values.minOf points.fromSliceOf points.dotOf points.infNormOf points.allFiniteOf
+    points.plusScaledOf points.minusScaledOf points.differenceOf points.additionOf points.quotientOf points.scaledOf points.negationOf
+    points.towardsOf points.rowDotOf points.matVecOf lists.first protocol.readOf records.wolfeOptionsOf records.idleOf records.blankOf
     records.gradientJobOf records.validSimplexOf records.validSearchPartOf records.knownRefusalOf records.validEndingOf records.validOptionsOf
-    records.validModelOf records.validDescentOf records.valid_of stands.overOf stands.gradientDueOf stands.terminationOf stands.result_of
+    records.validModelOf records.validDescentOf records.validOf stands.overOf stands.gradientDueOf stands.terminationOf stands.resultOf
     stands.standingSimplexOf stands.descentTerminationOf stands.descentConvergedOf stands.descentResultOf stands.standingDescentOf stands.standingOf
     firsts.excessOf firsts.pastLimitsOf firsts.simplexRefusalOf firsts.limitOf firsts.simplexLimitsOf firsts.simplexRecordOf
     firsts.gradientPastLimitsOf firsts.orderedOf firsts.noMemoryOf firsts.gradientRefusalOf firsts.gradientLimitsOf firsts.keptOptionsOf
-    firsts.gradientMarkOf firsts.gradientRecordOf rules.repeatsOf answers.steppedOf answers.gradedOf answers.taken_of answers.takenGradientOf
-    rules.suitsOf answers.heardOf answers.answer_of starts.simplexOf starts.gradientOf starts.bfgsOf starts.lbfgsOf vertexOrder.inOrder method.beta
-    method.gamma method.delta method.displaced method.resolution method.better vertices.put_of vertices.insertedOf vertices.sortedOf vertices.summedOf
-    vertices.centroidOf vertices.cornerOf vertices.size_of vertices.anyFiniteOf vertices.flatOf vertices.convergedOf neldermead.orderedOf
-    neldermead.trialOf neldermead.reflectOf neldermead.reasonOf neldermead.done_of neldermead.tested_of neldermead.headedOf neldermead.buildOf
-    neldermead.settled_of neldermead.builtOf neldermead.replacedOf neldermead.reflectedOf neldermead.insideOf neldermead.toldOf neldermead.start_of
-    order.precedesOf order.key_of trials.start_of trials.armijoOf trials.curvatureOf lines.lineFromOf lines.optionsRefusalOf lines.countsRefusalOf
+    firsts.gradientMarkOf firsts.gradientRecordOf rules.repeatsOf answers.steppedOf answers.gradedOf answers.takenOf answers.takenGradientOf
+    rules.suitsOf answers.heardOf answers.answerOf starts.simplexOf starts.gradientOf starts.bfgsOf starts.lbfgsOf vertexOrder.inOrder method.beta
+    method.gamma method.delta method.displaced method.resolution method.better vertices.putOf vertices.insertedOf vertices.sortedOf vertices.summedOf
+    vertices.centroidOf vertices.cornerOf vertices.sizeOf vertices.anyFiniteOf vertices.flatOf vertices.convergedOf neldermead.orderedOf
+    neldermead.trialOf neldermead.reflectOf neldermead.reasonOf neldermead.doneOf neldermead.testedOf neldermead.headedOf neldermead.buildOf
+    neldermead.settledOf neldermead.builtOf neldermead.replacedOf neldermead.reflectedOf neldermead.insideOf neldermead.toldOf neldermead.startOf
+    order.precedesOf order.keyOf trials.startOf trials.armijoOf trials.curvatureOf lines.lineFromOf lines.optionsRefusalOf lines.countsRefusalOf
     lines.lineRefusalOf linesearch.pointAtOf linesearch.evaluatedOf linesearch.precedingOf linesearch.risenOf linesearch.lowerOf linesearch.keepOf
-    linesearch.successOf linesearch.evalOf linesearch.bracket_of linesearch.bracketedOf linesearch.decidedOf linesearch.gradedOf
+    linesearch.successOf linesearch.evalOf linesearch.bracketOf linesearch.bracketedOf linesearch.decidedOf linesearch.gradedOf
     linesearch.evalGradientOf linesearch.valuedOf linesearch.begunOf linesearch.probeOf linesearch.toldOf linesearch.toldGradientOf hessian.diagonalOf
     hessian.updateRowOf hessian.updateRowsOf hessian.preparedOf hessian.denseUpdateOf hessian.denseDirectionOf hessian.downOf hessian.downFrom
     hessian.allDownOf hessian.upOf hessian.allUpOf hessian.limitedDirectionOf hessian.roomOf hessian.gammaOf hessian.limitedUpdateOf hessian.noPairsOf
-    hessian.blankOf hessian.newModelOf hessian.directionOf hessian.updateOf quasinewton.stores_of quasinewton.smallDecreaseOf quasinewton.smallStepOf
+    hessian.blankOf hessian.newModelOf hessian.directionOf hessian.updateOf quasinewton.storesOf quasinewton.smallDecreaseOf quasinewton.smallStepOf
     quasinewton.initialStepOf quasinewton.notDescendingOf quasinewton.soughtOf quasinewton.searchedOf quasinewton.directedOf quasinewton.headedOf
-    quasinewton.storedOf quasinewton.steppedOf quasinewton.succeededOf quasinewton.settled_of quasinewton.asksOf quasinewton.gradientDueOf
-    quasinewton.gradedOf quasinewton.valuedOf quasinewton.probeOf quasinewton.toldOf quasinewton.toldGradientOf quasinewton.idleOf quasinewton.start_of
+    quasinewton.storedOf quasinewton.steppedOf quasinewton.succeededOf quasinewton.settledOf quasinewton.asksOf quasinewton.gradientDueOf
+    quasinewton.gradedOf quasinewton.valuedOf quasinewton.probeOf quasinewton.toldOf quasinewton.toldGradientOf quasinewton.idleOf quasinewton.startOf
 facts =
     record {
       runs = record { simplex-run = λ k. refl; non-finite-run = refl; bfgs-run = refl; lbfgs-run = refl; stopped-run = refl };
@@ -148,7 +148,7 @@ not-vacuous =
       bfgs-reaches = bfgs-reaches;
       lbfgs-reaches = lbfgs-reaches;
       raised = raised;
-      simplex-one = λ k. of_one code-claim (simplex-reaches k);
-      non-finite-one = of_one code-claim non-finite-reaches;
-      raised-two = of_two code-claim raised;
+      simplex-one = λ k. of-one code-claim (simplex-reaches k);
+      non-finite-one = of-one code-claim non-finite-reaches;
+      raised-two = of-two code-claim raised;
     }

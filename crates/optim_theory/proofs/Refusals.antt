@@ -26,7 +26,7 @@ use Rattle.quasinewton_model.specs.Step.{directionOf}
 use Rattle.quasinewton_record.specs.declared.Fixed.{Fixed}
 use Rattle.quasinewton_record.specs.declared.Descent.{Descent}
 use Rattle.quasinewton.specs.Step as step
-use Rattle.quasinewton.specs.Step.{firstValue, firstDifferences, searching, byRefusal, smallDecreaseOf, smallStepOf, initialStepOf, notDescendingOf, refusedBy, withLine, withSearch, valuedAt, soughtOf, searchedOf, steepestOf, directedOf, headedOf, lowerOf, missedOf, steppedOf, Moved, storedOf, succeededOf, settled_of, gradedOf, differingOf, valuedOf, toldOf, toldGradientOf, start_of}
+use Rattle.quasinewton.specs.Step.{firstValue, firstDifferences, searching, byRefusal, smallDecreaseOf, smallStepOf, initialStepOf, notDescendingOf, refusedBy, withLine, withSearch, valuedAt, soughtOf, searchedOf, steepestOf, directedOf, headedOf, lowerOf, missedOf, steppedOf, Moved, storedOf, succeededOf, settledOf, gradedOf, differingOf, valuedOf, toldOf, toldGradientOf, startOf}
 use Rattle.optim_record.specs.Record.{knownRefusalOf, validEndingOf}
 
 -- a refusal that ended the fit is one of those
@@ -60,9 +60,9 @@ counts-known : (n : ℕ) → 0 < n → Known (countsRefusalOf n n n)
 unfolding countsRefusalOf
 counts-known n some = rw (ne_eqb n 0 (λ e. omega arith), eq-eqb n n refl) none-met
 
-line_known : (n : ℕ) (l : Line) (a : Float) → Known (lineRefusalOf n l a)
+line-known : (n : ℕ) (l : Line) (a : Float) → Known (lineRefusalOf n l a)
 unfolding lineRefusalOf knownRefusalOf
-line_known n l a =
+line-known n l a =
     test (not (allFiniteOf l.x n)) (record { met = λ e. refl })
     (test (not (allFiniteOf l.d n)) (record { met = λ e. refl })
     (test (not (allFiniteOf l.g n)) (record { met = λ e. refl })
@@ -89,8 +89,8 @@ pub searched-named : (q : Descent) (s : Search) → Named q → Named (withSearc
 unfolding validEndingOf
 searched-named q s h = record { ending = h.ending }
 
-pub start-named : (x : List Float) → Named (start_of x)
-unfolding start_of validEndingOf
+pub start-named : (x : List Float) → Named (startOf x)
+unfolding startOf validEndingOf
 start-named x = record { ending = refl }
 
 module _ (fixed : Fixed) (some : 0 < fixed.n) where
@@ -103,7 +103,7 @@ module _ (fixed : Fixed) (some : 0 < fixed.n) where
       let a = initialStepOf q.first d n in
       let l = lineFromOf q.line.x d q.line.f q.line.g n in
       refuses q _ (optionsRefusalOf fixed.options.wolfe) (options-known fixed.options.wolfe)
-      (refuses q _ (countsRefusalOf n n n) (counts-known n some) (refuses q (soughtOf fixed q l a) (lineRefusalOf n l a) (line_known n l a) (record { ending = refl })))
+      (refuses q _ (countsRefusalOf n n n) (counts-known n some) (refuses q (soughtOf fixed q l a) (lineRefusalOf n l a) (line-known n l a) (record { ending = refl })))
 
   steepest-named : (q : Descent) → Named (steepestOf fixed q)
   unfolding steepestOf validEndingOf
@@ -144,14 +144,14 @@ module _ (fixed : Fixed) (some : 0 < fixed.n) where
       (both-moved (smallDecreaseOf o.ftol q.line.f t.trial.value) (record { named = record { ending = refl } })
       (both-moved (smallStepOf o.xtol q.line.x t.x n) (record { named = record { ending = refl } }) (record { named = headed-named (steppedOf q t) (storedOf fixed q m t) v })))
 
-  pub settled-named : (q : Descent) (m : Model) (v : ℕ) → Named q → Named (settled_of fixed q m v).descent
-  unfolding settled_of
+  pub settled-named : (q : Descent) (m : Model) (v : ℕ) → Named q → Named (settledOf fixed q m v).descent
+  unfolding settledOf
   settled-named q m v h = made.named
     where
       t : Evaluation
       t = q.search.best
 
-      made : NamedMoved (settled_of fixed q m v)
+      made : NamedMoved (settledOf fixed q m v)
       made =
           both-moved (eqb q.phase step.atHead) (record { named = headed-named q m v })
           (both-moved (not (eqb q.phase searching)) (record { named = h })
@@ -174,9 +174,9 @@ module _ (fixed : Fixed) (some : 0 < fixed.n) where
       both (not (finiteOf v)) (record { ending = refl })
       (both fixed.options.gradients (record { ending = refl }) (differing-named (withLine q step.firstGradient (valuedAt q q.line.x v)) (objective.begunOf q.line.x)))
 
-  pub told_named : (q : Descent) (v : Float) → Named q → Named (toldOf fixed q v)
+  pub told-named : (q : Descent) (v : Float) → Named q → Named (toldOf fixed q v)
   unfolding toldOf validEndingOf
-  told_named q v h =
+  told-named q v h =
       both (eqb q.phase searching) (record { ending = h.ending })
       (both (eqb q.phase firstValue) (valued-named q v)
       (both (not (eqb q.phase firstDifferences)) h (both (ltb q.diff.at n) (differing-named q (objective.toldOf q.diff v)) h)))

@@ -10,7 +10,7 @@ use borrow.Author.Tests.{eqb-true, ne_eqb}
 use lib.ListN.{length, get_or}
 use lib.Ieee.{Float, nan}
 use Rattle.vector.specs.Points.{fromSliceOf}
-use Rattle.protocol.specs.Protocol.{Question, Outcome, Reply, ask, ended, refused, read_of}
+use Rattle.protocol.specs.Protocol.{Question, Outcome, Reply, ask, ended, refused, readOf}
 use Rattle.protocol.proofs.Replies.{ask≢refused, ended≢refused}
 use Rattle.objective.specs.Step.{toldOf}
 use Rattle.neldermead.specs.Step.{notFinite, toldOf as simplexTold}
@@ -20,15 +20,15 @@ use Rattle.quasinewton.specs.Step.{byRefusal, Moved}
 use Rattle.optim_record.specs.declared.Record.{Record}
 use Rattle.linesearch.specs.Step as linesearch
 use Rattle.linesearch.specs.Step.{asksGradient, asksDifference}
-use Rattle.optim_record.specs.Record.{simplexMark, bfgsMark, lbfgsMark, searchMark, lastAsking, fixed_of, searchFixedOf, gradientFixedOf, gradientJobOf, knownRefusalOf, validEndingOf, blankOf, valid_of}
+use Rattle.optim_record.specs.Record.{simplexMark, bfgsMark, lbfgsMark, searchMark, lastAsking, fixedOf, searchFixedOf, gradientFixedOf, gradientJobOf, knownRefusalOf, validEndingOf, blankOf, validOf}
 use Rattle.optim_record.specs.Refusal1.{OneOf, EndingMark}
 use Rattle.optim_record.proofs.Refusal1Parts.{known, ending-part}
 use Rattle.optim_record.proofs.Refusal1.{in-range}
 use Rattle.optim_reply.specs.Standing.{refusedOf, overOf, gradientDueOf, standingSimplexOf, standingSearchOf, descentEndsOf, standingDescentOf, standingDifferencesOf, standingOf}
 use Rattle.optim_reply.proofs.Says.{stands-keeps}
 use Rattle.optim_rules.specs.Rules.{repeatsOf, suitsOf}
-use Rattle.optim.specs.Answer.{valuedOf, slopedOf, steppedOf, gradedOf, taken_of, takenGradientOf, heardOf, answer_of}
-use Rattle.optim_theory.proofs.Refusals.{Named, searched-named, settled-named, told_named, told-gradient-named}
+use Rattle.optim.specs.Answer.{valuedOf, slopedOf, steppedOf, gradedOf, takenOf, takenGradientOf, heardOf, answerOf}
+use Rattle.optim_theory.proofs.Refusals.{Named, searched-named, settled-named, told-named, told-gradient-named}
 use Rattle.optim_theory.specs.Replies.{Among, turnsAway, endsJob, refusesAnswer, Answers}
 
 -- the marks of gradient fits
@@ -150,14 +150,14 @@ refuses r k t = record { scope = go (turnsAway k) t; keeps = λ j d e h. refl }
     go false h = absurd h
 
 -- a record in range does, and has an unknown
-valid-holds : (r : Record) → valid_of r ≡ true → Holds r
+valid-holds : (r : Record) → validOf r ≡ true → Holds r
 valid-holds r e g = record { ending = (ending-part r.descent).1 ((in-range r e).marks.ending (gradient-marks r.job g)) }
 
-valid-some : (r : Record) → valid_of r ≡ true → gradientJobOf r.job ≡ true → 0 < r.n
+valid-some : (r : Record) → validOf r ≡ true → gradientJobOf r.job ≡ true → 0 < r.n
 valid-some r e g = (in-range r e).unknowns.some (λ k. ⊎_elim (λ i. omega (arith, i, k)) (λ i. omega (arith, i, k)) (gradient-marks r.job g))
 
 -- it lasts
-stepped-holds : (r : Record) (v : Float) → valid_of r ≡ true → Holds r → Holds (steppedOf r v)
+stepped-holds : (r : Record) (v : Float) → validOf r ≡ true → Holds r → Holds (steppedOf r v)
 unfolding steppedOf
 stepped-holds r v e h = go (eqb r.job simplexMark) refl (eqb r.job searchMark) refl (gradientJobOf r.job) refl
   where
@@ -165,18 +165,18 @@ stepped-holds r v e h = go (eqb r.job simplexMark) refl (eqb r.job searchMark) r
     fixed = gradientFixedOf r
 
     q : Moved
-    q = quasinewton.settled_of fixed (quasinewton.toldOf fixed r.descent (read_of v)) r.model (r.counts.fevals + 1)
+    q = quasinewton.settledOf fixed (quasinewton.toldOf fixed r.descent (readOf v)) r.model (r.counts.fevals + 1)
 
     go : (a : Bool) → eqb r.job simplexMark ≡ a → (b : Bool) → eqb r.job searchMark ≡ b → (c : Bool) → gradientJobOf r.job ≡ c
-        → Holds (cond a (valuedOf r r.diff (simplexTold (fixed_of r) r.simplex (read_of v) (r.counts.fevals + 1)) r.descent r.model)
-        (cond b (valuedOf r r.diff r.simplex (quasinewton.withSearch r.descent (linesearch.toldOf (searchFixedOf r) r.descent.line r.descent.search (read_of v) v)) r.model)
+        → Holds (cond a (valuedOf r r.diff (simplexTold (fixedOf r) r.simplex (readOf v) (r.counts.fevals + 1)) r.descent r.model)
+        (cond b (valuedOf r r.diff r.simplex (quasinewton.withSearch r.descent (linesearch.toldOf (searchFixedOf r) r.descent.line r.descent.search (readOf v) v)) r.model)
         (cond c (valuedOf r r.diff r.simplex q.descent q.model) (valuedOf r (toldOf r.diff v) r.simplex r.descent r.model))))
     go true i b j c k = h
     go false i true j c k = λ e. searched-named r.descent _ (h e)
-    go false i false j true k = λ i. settled-named fixed (valid-some r e k) _ r.model (r.counts.fevals + 1) (told_named fixed (valid-some r e k) r.descent (read_of v) (h k))
+    go false i false j true k = λ i. settled-named fixed (valid-some r e k) _ r.model (r.counts.fevals + 1) (told-named fixed (valid-some r e k) r.descent (readOf v) (h k))
     go false i false j false k = h
 
-graded-holds : (r : Record) (g : List Float) → valid_of r ≡ true → Holds r → gradientDueOf r ≡ true → Holds (gradedOf r g)
+graded-holds : (r : Record) (g : List Float) → validOf r ≡ true → Holds r → gradientDueOf r ≡ true → Holds (gradedOf r g)
 unfolding gradedOf gradientDueOf
 graded-holds r g u h due = go (eqb r.job searchMark) refl due
   where
@@ -184,7 +184,7 @@ graded-holds r g u h due = go (eqb r.job searchMark) refl due
     fixed = gradientFixedOf r
 
     q : Moved
-    q = quasinewton.settled_of fixed (quasinewton.toldGradientOf fixed r.descent g) r.model r.counts.fevals
+    q = quasinewton.settledOf fixed (quasinewton.toldGradientOf fixed r.descent g) r.model r.counts.fevals
 
     go : (a : Bool) → eqb r.job searchMark ≡ a
         → cond a (eqb r.descent.search.phase asksGradient) (cond (gradientJobOf r.job) (quasinewton.gradientDueOf r.descent) false) ≡ true
@@ -192,15 +192,15 @@ graded-holds r g u h due = go (eqb r.job searchMark) refl due
     go true i z = λ e. searched-named r.descent _ (h e)
     go false i z = λ e. settled-named fixed (valid-some r u e) _ r.model r.counts.fevals (told-gradient-named fixed (valid-some r u e) r.descent g (h e))
 
-fine : (r : Record) (number kind : ℕ) (words : List Float) → Fine r (answer_of r number kind words)
-unfolding answer_of heardOf taken_of takenGradientOf
-fine r number kind words = go (valid_of r) refl
+fine : (r : Record) (number kind : ℕ) (words : List Float) → Fine r (answerOf r number kind words)
+unfolding answerOf heardOf takenOf takenGradientOf
+fine r number kind words = go (validOf r) refl
   where
-    heard : valid_of r ≡ true → (b : Bool) → gradientDueOf r ≡ b → Fine r (cond b (takenGradientOf r (fromSliceOf words r.n)) (taken_of r (get_or words 0 nan)))
+    heard : validOf r ≡ true → (b : Bool) → gradientDueOf r ≡ b → Fine r (cond b (takenGradientOf r (fromSliceOf words r.n)) (takenOf r (get_or words 0 nan)))
     heard h true e = stands r (gradedOf r (fromSliceOf words r.n)) (graded-holds r (fromSliceOf words r.n) h (valid-holds r h) e)
     heard h false e = stands r (steppedOf r (get_or words 0 nan)) (stepped-holds r (get_or words 0 nan) h (valid-holds r h))
 
-    go : (b : Bool) → valid_of r ≡ b → Fine r (cond b (heardOf r number kind words) (refusedOf r 1 0))
+    go : (b : Bool) → validOf r ≡ b → Fine r (cond b (heardOf r number kind words) (refusedOf r 1 0))
     go true v =
         let h = valid-holds r v in
         either (Fine r) (repeatsOf r.accepted number) _ _ (stands r r h)
@@ -209,26 +209,26 @@ fine r number kind words = go (valid_of r) refl
         (either (Fine r) (not (suitsOf r kind (length words))) _ _ (refuses r 17 tt) (heard v (gradientDueOf r) refl))))
     go false v = refuses r 1 tt
 
-repeated : (r : Record) (number kind : ℕ) (words : List Float) → valid_of r ≡ true → repeatsOf r.accepted number ≡ true → answer_of r number kind words ≡ standingOf r
-unfolding answer_of heardOf
+repeated : (r : Record) (number kind : ℕ) (words : List Float) → validOf r ≡ true → repeatsOf r.accepted number ≡ true → answerOf r number kind words ≡ standingOf r
+unfolding answerOf heardOf
 repeated r number kind words v e =
-    taken-arm (valid_of r) _ _ v ∙ taken-arm (repeatsOf r.accepted number) _ _ e
+    taken-arm (validOf r) _ _ v ∙ taken-arm (repeatsOf r.accepted number) _ _ e
 
-out_of_range : (r : Record) (number kind : ℕ) (words : List Float) → valid_of r ≡ false → answer_of r number kind words ≡ (refused 1 0, r)
-unfolding answer_of
-out_of_range r number kind words e = rw e
+out-of-range : (r : Record) (number kind : ℕ) (words : List Float) → validOf r ≡ false → answerOf r number kind words ≡ (refused 1 0, r)
+unfolding answerOf
+out-of-range r number kind words e = rw e
 
-blank-refused : valid_of blankOf ≡ false
-unfolding valid_of blankOf gradientJobOf
+blank-refused : validOf blankOf ≡ false
+unfolding validOf blankOf gradientJobOf
 blank-refused = refl
 
 pub answers : Answers
 answers = record {
-  in_scope = λ r number kind words. (fine r number kind words).scope;
+  in-scope = λ r number kind words. (fine r number kind words).scope;
   refused-keeps = λ r number kind words. (fine r number kind words).keeps;
   repeat-keeps = λ r number kind words v e.
       let s = repeated r number kind words v e in
       (λ i. (s i).0, subst (λ (a : Reply × Record). a.1 ≡ r) (sym s) (stands-keeps r));
-  out_of_range = out_of_range;
-  blank = λ number kind words. out_of_range blankOf number kind words blank-refused;
+  out-of-range = out-of-range;
+  blank = λ number kind words. out-of-range blankOf number kind words blank-refused;
 }

@@ -20,7 +20,7 @@ use Rattle.linesearch_trials.specs.Trials.{one}
 use Rattle.linesearch_trials.specs.Start.{lineFromOf, optionsRefusalOf, countsRefusalOf, lineRefusalOf}
 use Rattle.linesearch.specs.Step.{asksGradient, asksDifference}
 use Rattle.quasinewton.specs.Step as quasinewton
-use Rattle.neldermead.specs.Step.{start_of}
+use Rattle.neldermead.specs.Step.{startOf}
 use Rattle.optim_record.specs.declared.Record.{Record}
 use Rattle.optim_record.specs.Record.{blankOf, gradientJobOf}
 use Rattle.optim_reply.specs.Standing.{refusedOf, standingSimplexOf, standingSearchOf, standingDescentOf, standingDifferencesOf, standingOf}
@@ -46,13 +46,13 @@ module _ (these : ℕ → ℕ → Bool) where
   either false h k = k
 
   refuses : (k d : ℕ) → T (these k d) → StartReplies these (refusedOf blankOf k d)
-  refuses k d t = record { in_scope = t; no_record = λ j c e. refl }
+  refuses k d t = record { in-scope = t; no-record = λ j c e. refl }
 
   asks : (q : Question) (r : Record) → StartReplies these (ask q, r)
-  asks q r = record { in_scope = tt; no_record = λ k d e. absurd (ask≢refused e) }
+  asks q r = record { in-scope = tt; no-record = λ k d e. absurd (ask≢refused e) }
 
   ends : (o : Outcome) (r : Record) → StartReplies these (ended o, r)
-  ends o r = record { in_scope = tt; no_record = λ k d e. absurd (ended≢refused e) }
+  ends o r = record { in-scope = tt; no-record = λ k d e. absurd (ended≢refused e) }
 
   -- a refusal that is met, or what comes after it
   decide : (why : Refusal) {y : Reply × Record} → Meets these why → StartReplies these y → StartReplies these (cond (not (eqb why.number 0)) (refusedOf blankOf why.number why.detail) y)
@@ -73,7 +73,7 @@ simplex-met count o a =
     (test (not (positiveOf o.step)) (record { met = λ e. tt }) (test (eqb count 0) (record { met = λ e. tt }) (none-met refusesSimplex)))))
 
 simplex-stands : (p : List Float) (n : ℕ) (o : SimplexOptions) (a : Allowances) → StartReplies refusesSimplex (standingOf (simplexRecordOf p n o a))
-unfolding standingOf standingSimplexOf simplexRecordOf start_of
+unfolding standingOf standingSimplexOf simplexRecordOf startOf
 simplex-stands p n o a = asks refusesSimplex _ _
 
 simplex-opens : (x : List Float) (o : SimplexOptions) (a : Allowances) → StartReplies refusesSimplex (simplexOf x o a)
@@ -106,7 +106,7 @@ lbfgs-met count o a =
     (test (not (orderedOf o.wolfe)) (record { met = λ e. tt }) (test (eqb count 0) (record { met = λ e. tt }) (none-met refusesLbfgs)))))))
 
 gradient-stands : (these : ℕ → ℕ → Bool) (p : List Float) (n : ℕ) (o : GradientOptions) (a : Allowances) (limited : Bool) → StartReplies these (standingOf (gradientRecordOf p n o a limited))
-unfolding standingOf standingDescentOf gradientRecordOf gradientMarkOf gradientJobOf quasinewton.start_of quasinewton.asksOf quasinewton.gradientDueOf
+unfolding standingOf standingDescentOf gradientRecordOf gradientMarkOf gradientJobOf quasinewton.startOf quasinewton.asksOf quasinewton.gradientDueOf
 gradient-stands these p n o a true = asks these _ _
 gradient-stands these p n o a false = asks these _ _
 

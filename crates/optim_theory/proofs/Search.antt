@@ -23,7 +23,7 @@ use Rattle.optim_record.specs.declared.Record.{Record}
 use Rattle.optim_theory.specs.Engine.{answerCode}
 use Rattle.optim_theory.specs.Jobs.{Text, begunBy, answerBy}
 use Rattle.optim_theory.specs.Search.{SearchStart, searchText, refusalOf, searchEnding, searchPastLimits, searchCode, codeRun, SearchFollowsText, SearchInRange, SearchZeros, SearchAtMost}
-use Rattle.optim_theory.proofs.Jobs.{Closes, at_most}
+use Rattle.optim_theory.proofs.Jobs.{Closes, at-most}
 use Rattle.optim_theory.proofs.JobLists as lists
 use Rattle.optim_theory.proofs.SearchRelated.{Relates, valid}
 use Rattle.optim_theory.proofs.SearchAnswers.{ties}
@@ -75,7 +75,7 @@ search-zeros s l n =
 -- ---- how many questions
 
 closes : Closes searchEnding
-closes = record { asks_none = none-asked; takes_none = none-taken }
+closes = record { asks-none = none-asked; takes-none = none-taken }
   where
     none-asked : (r : Searched) → questionIn (searchEnding r) ≡ []
     none-asked (refuses why) = refl
@@ -86,13 +86,13 @@ closes = record { asks_none = none-asked; takes_none = none-taken }
     none-taken (gives r) a = refl
 
 module _ (s : SearchStart) (l : List Answer) (n : NotRefused (searchCode s).0) (w : GivenF64s l) where
-  by_kind : (κ : Kind) → questionsOf κ (codeRun s l).questions ≤ s.options.evals * perTrial κ s.gradients (length s.x)
-  by_kind κ =
+  by-kind : (κ : Kind) → questionsOf κ (codeRun s l).questions ≤ s.options.evals * perTrial κ s.gradients (length s.x)
+  by-kind κ =
       subst (λ (qs : List Question). questionsOf κ qs ≤ s.options.evals * perTrial κ s.gradients (length s.x)) (sym (same s n l w).questions)
-      (at_most searchEnding closes κ _ (searchText s) (text-costs s κ) l)
+      (at-most searchEnding closes κ _ (searchText s) (text-costs s κ) l)
 
-  in_all : length (codeRun s l).questions ≤ s.options.evals * perTrial Value s.gradients (length s.x) + s.options.evals * perTrial Gradient s.gradients (length s.x)
-  in_all = omega (arith, all-questions (codeRun s l).questions, by_kind Value, by_kind Gradient)
+  in-all : length (codeRun s l).questions ≤ s.options.evals * perTrial Value s.gradients (length s.x) + s.options.evals * perTrial Gradient s.gradients (length s.x)
+  in-all = omega (arith, all-questions (codeRun s l).questions, by-kind Value, by-kind Gradient)
 
 with-low : (k e n : ℕ) (b : Bool) → b ≡ true → k ≤ e * perTrial Value b n + e * perTrial Gradient b n → k ≤ 2 * e
 with-low k e n true i h = omega arith
@@ -105,7 +105,7 @@ without-low k e n true i h = absurd (subst T i tt)
 pub search-at-most : SearchAtMost
 search-at-most =
     record {
-      of-kind = λ κ s l n w. by_kind s l n w κ;
-      with-gradients = λ s l g n w. with-low _ s.options.evals (length s.x) s.gradients g (in_all s l n w);
-      without = λ s l g n w. without-low _ s.options.evals (length s.x) s.gradients g (in_all s l n w);
+      of-kind = λ κ s l n w. by-kind s l n w κ;
+      with-gradients = λ s l g n w. with-low _ s.options.evals (length s.x) s.gradients g (in-all s l n w);
+      without = λ s l g n w. without-low _ s.options.evals (length s.x) s.gradients g (in-all s l n w);
     }

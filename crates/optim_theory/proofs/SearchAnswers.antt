@@ -11,30 +11,30 @@ use Rattle.protocol.specs.declared.Kind.TheVariants.{Value, Gradient}
 use Rattle.protocol.specs.Ask.{◌>>=◌}
 use Rattle.linesearch.specs.Step.{asksGradient, asksDifference, probeOf}
 use Rattle.linesearch_theory.specs.Algorithm.{Searched}
-use Rattle.linesearch_theory.specs.Follows.{kind_of, toDo, answered}
+use Rattle.linesearch_theory.specs.Follows.{kindOf, toDo, answered}
 use Rattle.optim_record.specs.declared.Record.{Record}
 use Rattle.optim_record.specs.Record.{searchFixedOf}
 use Rattle.optim_theory.specs.Follows.{asTold}
-use Rattle.optim_theory.specs.Jobs.{Text, last_of, shown}
+use Rattle.optim_theory.specs.Jobs.{Text, lastOf, shown}
 use Rattle.optim_theory.specs.Search.{searchEnding}
 use Rattle.optim_theory.proofs.JobAnswers as job
-use Rattle.optim_theory.proofs.SearchRelated.{finished, text_of, Sound, Relates, valid, asks, ended_by, over-as, due-as, stands, moves, moves-within}
+use Rattle.optim_theory.proofs.SearchRelated.{finished, textOf, Sound, Relates, valid, asks, ended-by, over-as, due-as, stands, moves, moves-within}
 
-module _ (r : Record) (R : Relates r (text_of r)) where
+module _ (r : Record) (R : Relates r (textOf r)) where
   abbrev S : Sound r
   S = R.sound
 
   -- the search has ended
-  over : asksDifference < r.descent.search.phase → job.Over searchEnding Relates r (text_of r)
-  over h = record { result = _; rest = ended_by r S h; over = over-as r S true (lt-ltb asksDifference r.descent.search.phase h) }
+  over : asksDifference < r.descent.search.phase → job.Over searchEnding Relates r (textOf r)
+  over h = record { result = _; rest = ended-by r S h; over = over-as r S true (lt-ltb asksDifference r.descent.search.phase h) }
 
   -- a question stands open
-  asking : r.descent.search.phase ≤ asksDifference → job.Asking searchEnding Relates r (text_of r)
+  asking : r.descent.search.phase ≤ asksDifference → job.Asking searchEnding Relates r (textOf r)
   asking h =
       let line = r.descent.line in
       let s = r.descent.search in
       record {
-        kind = kind_of s;
+        kind = kindOf s;
         point = first r.n (probeOf (searchFixedOf r) line s);
         then = λ w. toDo asTold (searchFixedOf r) line (answered asTold (searchFixedOf r) line s w) >>= finished;
         rest = asks r S h;
@@ -48,10 +48,10 @@ module _ (r : Record) (R : Relates r (text_of r)) where
       by true = refl
       by false = refl
 
-  state : job.Asking searchEnding Relates r (text_of r) ⊎ job.Over searchEnding Relates r (text_of r)
+  state : job.Asking searchEnding Relates r (textOf r) ⊎ job.Over searchEnding Relates r (textOf r)
   state = go (ltb asksDifference r.descent.search.phase) refl
     where
-      go : (b : Bool) → ltb asksDifference r.descent.search.phase ≡ b → job.Asking searchEnding Relates r (text_of r) ⊎ job.Over searchEnding Relates r (text_of r)
+      go : (b : Bool) → ltb asksDifference r.descent.search.phase ≡ b → job.Asking searchEnding Relates r (textOf r) ⊎ job.Over searchEnding Relates r (textOf r)
       go true e = inr (over (ltb-true asksDifference r.descent.search.phase e))
       go false e = inl (asking (ltb-false asksDifference r.descent.search.phase e))
 
@@ -59,8 +59,8 @@ pub ties : job.JobTies searchEnding Relates
 ties =
     record {
       valid = λ r t R. valid r R.sound R.within;
-      numbers = λ r t R. R.sound.numbers ∙ ap last_of R.is;
-      stands = λ r t R. stands r R.sound ∙ ap (λ (z : Text Searched). shown searchEnding (last_of z) z.rest) R.is;
+      numbers = λ r t R. R.sound.numbers ∙ ap lastOf R.is;
+      stands = λ r t R. stands r R.sound ∙ ap (λ (z : Text Searched). shown searchEnding (lastOf z) z.rest) R.is;
       state = λ r t R. subst (λ (z : Text Searched). job.Asking searchEnding Relates r z ⊎ job.Over searchEnding Relates r z) R.is
           (state r (record { sound = R.sound; within = R.within; is = refl }));
     }

@@ -17,20 +17,20 @@ use Rattle.vector.proofs.First.{point-laws}
 use Rattle.vector.specs.Ties.{ZeroFrom}
 use Rattle.protocol.specs.declared.Kind.{Kind}
 use Rattle.protocol.specs.declared.Kind.TheVariants.{Value, Gradient}
-use Rattle.protocol.specs.Protocol.{read_of}
+use Rattle.protocol.specs.Protocol.{readOf}
 use Rattle.protocol.specs.Dialogue.{ofKind}
 use Rattle.protocol.specs.Ask.{Ask, finish, query, ◌>>=◌}
-use Rattle.protocol.specs.Bounds.{Costs, of_both}
+use Rattle.protocol.specs.Bounds.{Costs, ofBoth}
 use Rattle.linesearch_moves.specs.declared.Search as search
 use Rattle.linesearch_trials.specs.declared.Fixed.{Fixed}
 use Rattle.linesearch.specs.Step.{asksGradient, asksDifference, found, failed, probeOf, toldOf, toldGradientOf}
 use Rattle.linesearch_theory.specs.Algorithm.{WolfeResult, Searched, gives}
 use Rattle.linesearch_theory.specs.Counts.{perTrial}
-use Rattle.linesearch_theory.specs.Follows.{kind_of, LineHas, SearchShaped, SearchZeroPast, toDo, outcome, answered}
+use Rattle.linesearch_theory.specs.Follows.{kindOf, LineHas, SearchShaped, SearchZeroPast, toDo, outcome, answered}
 use Rattle.linesearch_theory.proofs.Follows.{search-follows}
 use Rattle.quasinewton.specs.Step.{searching, withSearch}
 use Rattle.optim_record.specs.declared.Record.{Record}
-use Rattle.optim_record.specs.Record.{simplexMark, searchMark, most, mostEvals, searchFixedOf, valid_of}
+use Rattle.optim_record.specs.Record.{simplexMark, searchMark, most, mostEvals, searchFixedOf, validOf}
 use Rattle.optim_record.proofs.Refusal1.{search-valid}
 use Rattle.optim_reply.specs.Standing.{overOf, gradientDueOf, searchResultOf, standingSearchOf, standingOf}
 use Rattle.optim.specs.Answer.{valuedOf, slopedOf, steppedOf, gradedOf}
@@ -43,11 +43,11 @@ use Rattle.optim_theory.specs.Search.{searchEnding}
 abbrev pub finished : WolfeResult → Ask Searched
 finished r = finish (gives r)
 
-abbrev pub rest_of : Record → Ask Searched
-rest_of r = toDo asTold (searchFixedOf r) r.descent.line r.descent.search >>= finished
+abbrev pub restOf : Record → Ask Searched
+restOf r = toDo asTold (searchFixedOf r) r.descent.line r.descent.search >>= finished
 
-abbrev pub text_of : Record → Text Searched
-text_of r = record { values = r.counts.fevals; gradients = r.counts.gevals; rest = rest_of r }
+abbrev pub textOf : Record → Text Searched
+textOf r = record { values = r.counts.fevals; gradients = r.counts.gevals; rest = restOf r }
 
 -- what holds of the record itself
 pub record Sound (r : Record) : Type 0 where
@@ -68,13 +68,13 @@ boundOf κ r = r.gradient.wolfe.evals * perTrial κ r.gradient.gradients r.n
 
 pub record Within (κ : Kind) (r : Record) : Type 0 where
   pub left : ℕ
-  pub costs : Costs κ left (rest_of r) (λ q. Unit {0})
-  pub within : of_both κ r.counts.fevals r.counts.gevals + left ≤ boundOf κ r
+  pub costs : Costs κ left (restOf r) (λ q. Unit {0})
+  pub within : ofBoth κ r.counts.fevals r.counts.gevals + left ≤ boundOf κ r
 
 pub record Relates (r : Record) (t : Text Searched) : Type 0 where
   pub sound : Sound r
   pub within : (κ : Kind) → Within κ r
-  pub is : text_of r ≡ t
+  pub is : textOf r ≡ t
 
 -- ---- it is in range
 
@@ -95,13 +95,13 @@ module _ (r : Record) (S : Sound r) where
   abbrev fixed : Fixed
   fixed = searchFixedOf r
 
-  count_low : (κ : Kind) → Within κ r → of_both κ r.counts.fevals r.counts.gevals ≤ 33000
-  count_low κ h = omega (arith, h.within, bound-low κ r.gradient.gradients r.gradient.wolfe.evals r.n S.evals S.shape.small)
+  count-low : (κ : Kind) → Within κ r → ofBoth κ r.counts.fevals r.counts.gevals ≤ 33000
+  count-low κ h = omega (arith, h.within, bound-low κ r.gradient.gradients r.gradient.wolfe.evals r.n S.evals S.shape.small)
 
-  pub valid : ((κ : Kind) → Within κ r) → valid_of r ≡ true
+  pub valid : ((κ : Kind) → Within κ r) → validOf r ≡ true
   valid h =
-      let v : r.counts.fevals ≤ 33000 = count_low Value (h Value) in
-      let g : r.counts.gevals ≤ 33000 = count_low Gradient (h Gradient) in
+      let v : r.counts.fevals ≤ 33000 = count-low Value (h Value) in
+      let g : r.counts.gevals ≤ 33000 = count-low Gradient (h Gradient) in
       search-valid r S.job
       (record { few = S.shape.small; accepted = omega (arith, S.numbers); fevals = omega arith; gevals = omega arith })
       (record {
@@ -114,20 +114,20 @@ module _ (r : Record) (S : Sound r) where
 
   -- the question that the text puts next
   pub asks : s.phase ≤ asksDifference
-      → rest_of r ≡ query (kind_of s) (first r.n (probeOf fixed r.descent.line s)) (λ w. toDo asTold fixed r.descent.line (answered asTold fixed r.descent.line s w) >>= finished)
+      → restOf r ≡ query (kindOf s) (first r.n (probeOf fixed r.descent.line s)) (λ w. toDo asTold fixed r.descent.line (answered asTold fixed r.descent.line s w) >>= finished)
   unfolding ◌>>=◌
   asks h = ap (λ (m : Ask WolfeResult). m >>= finished) ((search-follows asTold fixed r.descent.line).follows s S.shape h)
 
   -- the end, in success or not
-  pub ended_by : asksDifference < s.phase → rest_of r ≡ finish (gives (outcome asTold fixed r.descent.line (eqb s.phase found) s))
+  pub ended-by : asksDifference < s.phase → restOf r ≡ finish (gives (outcome asTold fixed r.descent.line (eqb s.phase found) s))
   unfolding ◌>>=◌
-  ended_by h = go (eqb s.phase found) refl
+  ended-by h = go (eqb s.phase found) refl
     where
       last : (p : ℕ) → asksDifference < p → p ≤ failed → (p ≡ found → ⊥) → p ≡ failed
       last p l m d = omega arith
 
-      go : (b : Bool) → eqb s.phase found ≡ b → rest_of r ≡ finish (gives (outcome asTold fixed r.descent.line b s))
-      go true e = ap (λ (m : Ask WolfeResult). m >>= finished) ((search-follows asTold fixed r.descent.line).ends_found s (eqb-true s.phase found e))
+      go : (b : Bool) → eqb s.phase found ≡ b → restOf r ≡ finish (gives (outcome asTold fixed r.descent.line b s))
+      go true e = ap (λ (m : Ask WolfeResult). m >>= finished) ((search-follows asTold fixed r.descent.line).ends-found s (eqb-true s.phase found e))
       go false e =
           ap (λ (m : Ask WolfeResult). m >>= finished)
           ((search-follows asTold fixed r.descent.line).ends-failed s (last s.phase h S.shape.most (eqb-false s.phase found e)))
@@ -144,22 +144,22 @@ module _ (r : Record) (S : Sound r) where
   unfolding gradientDueOf
   due-as = rw (eq-eqb r.job searchMark S.job)
 
-  shows-question : s.phase ≤ asksDifference → (standingSearchOf r).0 ≡ shown searchEnding r.accepted (rest_of r)
+  shows-question : s.phase ≤ asksDifference → (standingSearchOf r).0 ≡ shown searchEnding r.accepted (restOf r)
   unfolding standingSearchOf
   shows-question h = go (eqb s.phase asksGradient) refl
     where
-      go : (b : Bool) → eqb s.phase asksGradient ≡ b → (standingSearchOf r).0 ≡ shown searchEnding r.accepted (rest_of r)
+      go : (b : Bool) → eqb s.phase asksGradient ≡ b → (standingSearchOf r).0 ≡ shown searchEnding r.accepted (restOf r)
       go true e = rw (asks h, le-ltb asksDifference s.phase h, e)
       go false e = rw (asks h, le-ltb asksDifference s.phase h, e)
 
-  shows-end : asksDifference < s.phase → (standingSearchOf r).0 ≡ shown searchEnding r.accepted (rest_of r)
+  shows-end : asksDifference < s.phase → (standingSearchOf r).0 ≡ shown searchEnding r.accepted (restOf r)
   unfolding standingSearchOf searchResultOf
-  shows-end h = rw (ended_by h, lt-ltb asksDifference s.phase h)
+  shows-end h = rw (ended-by h, lt-ltb asksDifference s.phase h)
 
-  pub stands : (standingOf r).0 ≡ shown searchEnding (r.counts.fevals + r.counts.gevals) (rest_of r)
-  stands = ap (λ a. a.0) as-search ∙ go (ltb asksDifference s.phase) refl ∙ ap (λ (k : ℕ). shown searchEnding k (rest_of r)) S.numbers
+  pub stands : (standingOf r).0 ≡ shown searchEnding (r.counts.fevals + r.counts.gevals) (restOf r)
+  stands = ap (λ a. a.0) as-search ∙ go (ltb asksDifference s.phase) refl ∙ ap (λ (k : ℕ). shown searchEnding k (restOf r)) S.numbers
     where
-      go : (b : Bool) → ltb asksDifference s.phase ≡ b → (standingSearchOf r).0 ≡ shown searchEnding r.accepted (rest_of r)
+      go : (b : Bool) → ltb asksDifference s.phase ≡ b → (standingSearchOf r).0 ≡ shown searchEnding r.accepted (restOf r)
       go true e = shows-end (ltb-true asksDifference s.phase e)
       go false e = shows-question (ltb-false asksDifference s.phase e)
 
@@ -170,7 +170,7 @@ abbrev pub next : Record → List Float → Record
 next r w = cond (gradientDueOf r) (gradedOf r (fromSliceOf w r.n)) (steppedOf r (get_or w 0 nan))
 
 module _ (r : Record) (S : Sound r) (stands-open : r.descent.search.phase ≤ asksDifference) (w : List Float) where
-  stepped : (v : Float) → steppedOf r v ≡ valuedOf r r.diff r.simplex (withSearch r.descent (toldOf (fixed r S) r.descent.line (s r S) (read_of v) v)) r.model
+  stepped : (v : Float) → steppedOf r v ≡ valuedOf r r.diff r.simplex (withSearch r.descent (toldOf (fixed r S) r.descent.line (s r S) (readOf v) v)) r.model
   unfolding steppedOf
   stepped v = rw (ne_eqb r.job simplexMark (λ e. omega (arith, S.job)), eq-eqb r.job searchMark S.job)
 
@@ -183,11 +183,11 @@ module _ (r : Record) (S : Sound r) (stands-open : r.descent.search.phase ≤ as
         positive = S.positive;
         evals = S.evals;
         numbers = omega (arith, S.numbers);
-        shape = (search-follows asTold (fixed r S) r.descent.line).told-shaped (s r S) (read_of v) v S.line16 S.shape;
+        shape = (search-follows asTold (fixed r S) r.descent.line).told-shaped (s r S) (readOf v) v S.line16 S.shape;
         line16 = S.line16;
         line-zeros = S.line-zeros;
         along-zeros = S.along-zeros;
-        zeros = (search-follows asTold (fixed r S) r.descent.line).told-zeros (s r S) (read_of v) v S.line-zeros S.shape S.zeros;
+        zeros = (search-follows asTold (fixed r S) r.descent.line).told-zeros (s r S) (readOf v) v S.line-zeros S.shape S.zeros;
       })
 
   graded : gradedOf r (fromSliceOf w r.n) ≡ slopedOf r (withSearch r.descent (toldGradientOf (fixed r S) r.descent.line (s r S) (fromSliceOf w r.n))) r.model
@@ -218,7 +218,7 @@ module _ (r : Record) (S : Sound r) (stands-open : r.descent.search.phase ≤ as
   abbrev rest-by : Bool → Ask Searched
   rest-by b =
       toDo asTold (fixed r S) r.descent.line
-      (cond b (toldGradientOf (fixed r S) r.descent.line (s r S) (fromSliceOf w r.n)) (toldOf (fixed r S) r.descent.line (s r S) (read_of (get_or w 0 nan)) (get_or w 0 nan)))
+      (cond b (toldGradientOf (fixed r S) r.descent.line (s r S) (fromSliceOf w r.n)) (toldOf (fixed r S) r.descent.line (s r S) (readOf (get_or w 0 nan)) (get_or w 0 nan)))
       >>= finished
 
   abbrev after-by : Bool → Text Searched
@@ -229,19 +229,19 @@ module _ (r : Record) (S : Sound r) (stands-open : r.descent.search.phase ≤ as
 
   pub record Moved (q : Record) : Type 0 where
     pub sound : Sound q
-    pub text : text_of q ≡ after
+    pub text : textOf q ≡ after
     pub accepted : q.accepted ≡ r.accepted + 1
     pub bound : (κ : Kind) → boundOf κ q ≡ boundOf κ r
 
   pub moves : Moved (next r w)
   moves = go (eqb (s r S).phase asksGradient) refl
     where
-      by_value : eqb (s r S).phase asksGradient ≡ false → Moved (steppedOf r (get_or w 0 nan))
-      by_value e =
+      by-value : eqb (s r S).phase asksGradient ≡ false → Moved (steppedOf r (get_or w 0 nan))
+      by-value e =
           let v = get_or w 0 nan in
           record {
             sound = stepped-sound v;
-            text = ap text_of (stepped v) ∙ ap (λ (g : ℕ). counting (r.counts.fevals + 1) g (rest-by false)) (sym (add-zero r.counts.gevals)) ∙ ap after-by (sym e);
+            text = ap textOf (stepped v) ∙ ap (λ (g : ℕ). counting (r.counts.fevals + 1) g (rest-by false)) (sym (add-zero r.counts.gevals)) ∙ ap after-by (sym e);
             accepted = rw (stepped v);
             bound = λ κ. rw (stepped v);
           }
@@ -250,24 +250,24 @@ module _ (r : Record) (S : Sound r) (stands-open : r.descent.search.phase ≤ as
       by-gradient e =
           record {
             sound = graded-sound;
-            text = ap text_of graded ∙ ap (λ (v : ℕ). counting v (r.counts.gevals + 1) (rest-by true)) (sym (add-zero r.counts.fevals)) ∙ ap after-by (sym e);
+            text = ap textOf graded ∙ ap (λ (v : ℕ). counting v (r.counts.gevals + 1) (rest-by true)) (sym (add-zero r.counts.fevals)) ∙ ap after-by (sym e);
             accepted = rw graded;
             bound = λ κ. rw graded;
           }
 
       go : (b : Bool) → eqb (s r S).phase asksGradient ≡ b → Moved (next r w)
       go true e = rw (due-as r S, e) (by-gradient e)
-      go false e = rw (due-as r S, e) (by_value e)
+      go false e = rw (due-as r S, e) (by-value e)
 
   -- and keeps to the bound
-  counted : (κ k : Kind) (v g : ℕ) → of_both κ (v + ofKind Value k) (g + ofKind Gradient k) ≡ of_both κ v g + ofKind κ k
+  counted : (κ k : Kind) (v g : ℕ) → ofBoth κ (v + ofKind Value k) (g + ofKind Gradient k) ≡ ofBoth κ v g + ofKind κ k
   counted Value k v g = refl
   counted Gradient k v g = refl
 
   pub moves-within : (κ : Kind) → Within κ r → Within κ (next r w)
   moves-within κ h = go (subst (λ (m : Ask Searched). Costs κ h.left m (λ q. Unit {0})) (asks r S stands-open) h.costs)
     where
-      go : (d : ℕ) × (ofKind κ (kind_of (s r S)) + d ≤ h.left)
+      go : (d : ℕ) × (ofKind κ (kindOf (s r S)) + d ≤ h.left)
           × ((z : List Float) → Costs κ d (toDo asTold (fixed r S) r.descent.line (answered asTold (fixed r S) r.descent.line (s r S) z) >>= finished) (λ q. Unit {0}))
           → Within κ (next r w)
       go c =
@@ -276,8 +276,8 @@ module _ (r : Record) (S : Sound r) (stands-open : r.descent.search.phase ≤ as
             costs = subst (λ (t : Text Searched). Costs κ c.0 t.rest (λ q. Unit {0})) (sym moves.text) (c.2 w);
             within = omega (
               arith,
-              ap (λ (t : Text Searched). of_both κ t.values t.gradients) moves.text,
-              counted κ (kind_of (s r S)) r.counts.fevals r.counts.gevals,
+              ap (λ (t : Text Searched). ofBoth κ t.values t.gradients) moves.text,
+              counted κ (kindOf (s r S)) r.counts.fevals r.counts.gevals,
               moves.bound κ,
               c.1,
               h.within,

@@ -24,7 +24,7 @@ use Rattle.protocol.specs.declared.WolfeOptions.{WolfeOptions}
 use Rattle.protocol.specs.Protocol.{Reply, refused, refusal}
 use Rattle.protocol.specs.Dialogue.{NotRefused}
 use Rattle.protocol.specs.Ask.{Ask, finish, ◌>>=◌}
-use Rattle.protocol.specs.Bounds.{Costs, of_both}
+use Rattle.protocol.specs.Bounds.{Costs, ofBoth}
 use Rattle.protocol.proofs.Bounds.{costs-bind}
 use Rattle.linesearch_trials.specs.declared.Line.{Line}
 use Rattle.linesearch_trials.specs.declared.Fixed.{Fixed}
@@ -44,7 +44,7 @@ use Rattle.optim_start.specs.Start.{searchOf}
 use Rattle.optim_theory.specs.Follows.{asTold}
 use Rattle.optim_theory.specs.Jobs.{shown}
 use Rattle.optim_theory.specs.Search.{SearchStart, searchText, searchEnding, searchPastLimits, searchCode}
-use Rattle.optim_theory.proofs.SearchRelated.{finished, rest_of, Sound, Within, Relates, stands}
+use Rattle.optim_theory.proofs.SearchRelated.{finished, restOf, Sound, Within, Relates, stands}
 use Rattle.optim_theory.proofs.EngineStarts.{decide}
 
 -- the reply that the text shows, and a record that is tied to it unless it is a refusal
@@ -147,7 +147,7 @@ module _ (s : SearchStart) where
     unfolding lineFromOf
     lowered = rw (whole s.x n refl, whole s.d n along, whole s.g n sloped, slope-as s.g s.d n sloped along)
 
-    made-rest : rest_of made ≡ body
+    made-rest : restOf made ≡ body
     unfolding searchRecordOf wolfeOptionsOf begunSearchOf
     made-rest =
         ap (λ (m : Ask WolfeResult). m >>= finished)
@@ -162,7 +162,7 @@ module _ (s : SearchStart) where
           within = none κ (o.evals * perTrial κ s.gradients n);
         }
       where
-        none : (κ : Kind) (k : ℕ) → of_both κ 0 0 + k ≤ k
+        none : (κ : Kind) (k : ℕ) → ofBoth κ 0 0 + k ≤ k
         none Value k = omega arith
         none Gradient k = omega arith
 

@@ -13,20 +13,20 @@ pub record Rest (Position : Type 0) : Type 0 where
   pub point : List Float
   pub onward : List Float → Ask (Ending Position)
 
-abbrev pub turn_of : {P : Type 0} → Ask (Ending P) → Turn (Rest P) P
-turn_of (query k x c) = still (record { kind = k; point = x; onward = c })
-turn_of (finish o) = ends o
+abbrev pub turnOf : {P : Type 0} → Ask (Ending P) → Turn (Rest P) P
+turnOf (query k x c) = still (record { kind = k; point = x; onward = c })
+turnOf (finish o) = ends o
 
-abbrev pub rest_of : {P : Type 0} → Rest P → Ask (Ending P)
-rest_of s = query s.kind s.point s.onward
+abbrev pub restOf : {P : Type 0} → Rest P → Ask (Ending P)
+restOf s = query s.kind s.point s.onward
 
 -- a restart's text; no other verdict leads to one
 abbrev pub againOf : {P : Type 0} → P → Verdict P → Turn (Rest P) P
 againOf p goOn = ends (atHead p)
 againOf p (stop y) = ends (atHead p)
-againOf p (restart m) = turn_of m
+againOf p (restart m) = turnOf m
 
-turn-text : {P : Type 0} → (m : Ask (Ending P)) → text rest_of (turn_of m) ≡ m
+turn-text : {P : Type 0} → (m : Ask (Ending P)) → text restOf (turnOf m) ≡ m
 turn-text (query k x c) = refl
 turn-text (finish o) = refl
 
@@ -37,18 +37,18 @@ module _ {Start : Type 0} (R : Rounds Start) where
         Place = Rest R.Position;
         kind = λ s. s.kind;
         point = λ s. s.point;
-        step = λ s w. turn_of (s.onward w);
-        opening = λ j x. turn_of (R.opening j x);
+        step = λ s w. turnOf (s.onward w);
+        opening = λ j x. turnOf (R.opening j x);
         again = λ p. againOf p (R.tests p);
-        round = λ p. turn_of (R.round p);
+        round = λ p. turnOf (R.round p);
       }
 
   pub textual-laws : StepsLaws R textual
   textual-laws =
       record {
-        toDo = rest_of;
+        toDo = restOf;
         follows = λ s. ap (query s.kind s.point) (fun_ext (λ w. sym (turn-text (s.onward w))));
         opens = λ j x. turn-text (R.opening j x);
-        restarts = λ p m e. subst (λ (v : Verdict R.Position). text rest_of (againOf p v) ≡ m) (sym e) (turn-text m);
+        restarts = λ p m e. subst (λ (v : Verdict R.Position). text restOf (againOf p v) ≡ m) (sym e) (turn-text m);
         rounds = λ p. turn-text (R.round p);
       }

@@ -19,21 +19,21 @@ use Rattle.quasinewton_theory.specs.Follows.{DescentZeroPast}
 use Rattle.optim_fits_theory.specs.Fits.{reference}
 use Rattle.optim_fits_theory.specs.Refusals.{EndedBy, Replied}
 use Rattle.optim_record.specs.declared.Record.{Record}
-use Rattle.optim_record.specs.Record.{valid_of}
-use Rattle.optim.specs.Answer.{answer_of}
+use Rattle.optim_record.specs.Record.{validOf}
+use Rattle.optim.specs.Answer.{answerOf}
 use Rattle.optim_start.specs.Start.{simplexOf, bfgsOf, lbfgsOf}
 
 -- the start of a job
-abbrev pub start_by : Job → List Float → Allowances → Reply × Record
-start_by (simplex o) x a = simplexOf x o a
-start_by (bfgs o) x a = bfgsOf x o a
-start_by (lbfgs o) x a = lbfgsOf x o a
+abbrev pub startBy : Job → List Float → Allowances → Reply × Record
+startBy (simplex o) x a = simplexOf x o a
+startBy (bfgs o) x a = bfgsOf x o a
+startBy (lbfgs o) x a = lbfgsOf x o a
 
 abbrev pub startCode : Fit → Reply × Record
-startCode f = start_by f.job f.x0 f.allowances
+startCode f = startBy f.job f.x0 f.allowances
 
 abbrev pub answerCode : Record → Answer → Reply × Record
-answerCode r a = answer_of r a.number a.kind a.words
+answerCode r a = answerOf r a.number a.kind a.words
 
 -- the engine of fits that the code is
 abbrev pub code : Engine
@@ -56,7 +56,7 @@ pub record CodeAtMost : Type 0 where
 
 -- no record made by a start and answers ever meets refusal 1
 abbrev pub CodeInRange : Type 0
-CodeInRange = (f : Fit) (l : List Answer) → Started code f → valid_of (run code f l).recordNow ≡ true
+CodeInRange = (f : Fit) (l : List Answer) → Started code f → validOf (run code f l).recordNow ≡ true
 
 -- the coordinates past n are +0.0 in a gradient fit's point, gradient and direction, in its best trial and its differences, and in every row and pair of its model
 pub record GradientZeros (n : ℕ) (r : Record) : Type 0 where

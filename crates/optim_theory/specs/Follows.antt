@@ -7,9 +7,9 @@ use Rattle.protocol.specs.Ask.{Ask, finish, query}
 use Rattle.objective.specs.Algorithm.{differences}
 use Rattle.objective.specs.Follows.{DifferencesSized, DifferencesZeroPast, toDo}
 use Rattle.optim_record.specs.declared.Record.{Record}
-use Rattle.optim_record.specs.Record.{Other, valid_of}
+use Rattle.optim_record.specs.Record.{Other, validOf}
 use Rattle.optim_reply.specs.Standing.{standingOf}
-use Rattle.optim.specs.Answer.{steppedOf, taken_of}
+use Rattle.optim.specs.Answer.{steppedOf, takenOf}
 use Rattle.optim_first_record.specs.Starts.{begunRecordOf}
 use Rattle.optim_start.specs.Start.{differencesOf}
 use Rattle.optim_theory.specs.Engine.{answerCode}
@@ -39,11 +39,11 @@ pub record JobFollows : Type 0 where
   -- an accepted answer leads to the rest of the text, whatever it tells
   pub takes : (r : Record) (v : Float) → Other r → DifferencesSized r.n r.diff → (r.diff.at ≡ r.n → ⊥) → rest (steppedOf r v) ≡ after (rest r) (v ∷ [])
   pub replies : (r : Record) (v : Float) → Other r → DifferencesSized r.n r.diff → (r.diff.at ≡ r.n → ⊥)
-      → (taken_of r v).0 ≡ shown differencesEnding (r.accepted + 1) (after (rest r) (v ∷ []))
+      → (takenOf r v).0 ≡ shown differencesEnding (r.accepted + 1) (after (rest r) (v ∷ []))
   -- it lasts
   pub begun-other : (x : List Float) → Other (begunRecordOf x)
   pub stepped-other : (r : Record) (v : Float) → Other r → Other (steppedOf r v)
-  pub begun_sized : (x : List Float) → length x ≤ 16 → DifferencesSized (begunRecordOf x).n (begunRecordOf x).diff
+  pub begun-sized : (x : List Float) → length x ≤ 16 → DifferencesSized (begunRecordOf x).n (begunRecordOf x).diff
   pub stepped-sized : (r : Record) (v : Float) → Other r → DifferencesSized r.n r.diff → (r.diff.at ≡ r.n → ⊥) → DifferencesSized (steppedOf r v).n (steppedOf r v).diff
 
 -- ---- along every list
@@ -67,7 +67,7 @@ pub record DifferencesFollowsText : Type 0 where
 
 -- no record made by the start of differences and answers ever meets refusal 1
 abbrev pub DifferencesInRange : Type 0
-DifferencesInRange = (x : List Float) (l : List Answer) → NotRefused (differencesOf x).0 → valid_of (differencesRun x l).recordNow ≡ true
+DifferencesInRange = (x : List Float) (l : List Answer) → NotRefused (differencesOf x).0 → validOf (differencesRun x l).recordNow ≡ true
 
 -- the coordinates past n are +0.0 in the point and the gradient
 abbrev pub DifferencesZeros : Type 0

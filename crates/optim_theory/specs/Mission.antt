@@ -5,11 +5,11 @@ use mathlib.Core.List.{List, [], ◌∷◌, ◌++◌, Memᴰ}
 use Rattle.float.specs.Binary64.{NotAbove}
 use Rattle.protocol.specs.declared.Kind.{Kind}
 use Rattle.protocol.specs.declared.Kind.TheVariants.{Value}
-use Rattle.protocol.specs.Protocol.{Question, Answer, Result, fitted, Reply, ask, ended, read_of, Fit}
+use Rattle.protocol.specs.Protocol.{Question, Answer, Result, fitted, Reply, ask, ended, readOf, Fit}
 use Rattle.protocol.specs.Dialogue.{GivenF64s, accepted, questionIn, NotRefused}
 use Rattle.protocol.specs.Claim.{IsSimplex, RunsAgain, ForAllowance}
 use Rattle.optim_record.specs.declared.Record.{Record}
-use Rattle.optim.specs.Answer.{answer_of}
+use Rattle.optim.specs.Answer.{answerOf}
 use Rattle.optim_theory.specs.Engine.{startCode}
 
 -- ---- what is called
@@ -24,7 +24,7 @@ pub record Call : Type 0 where
 abbrev pub callsFrom : Reply → Record → List Answer → List Call
 callsFrom y r [] = []
 callsFrom y r (a ∷ l) =
-    let n = answer_of r a.number a.kind a.words in
+    let n = answerOf r a.number a.kind a.words in
     record { stood = y; answer = a; reply = n.0 } ∷ callsFrom (cond (accepted y a) n.0 y) n.1 l
 
 abbrev pub calls : Fit → List Answer → List Call
@@ -79,6 +79,6 @@ pub record Mission : Type 0 where
   pub told : (f : Fit) (l : List Answer) (r : Result) → CallsEnd f l r → (c : Call) × Memᴰ c (calls f l) × Tells c Value r.x (r.f ∷ [])
   -- in a simplex fit no value told is less, each read as the fit reads it
   pub least : (f : Fit) (l : List Answer) (r : Result) → CallsEnd f l r → IsSimplex f.job
-      → (c : Call) (x : List Float) (v : Float) → Memᴰ c (calls f l) → Tells c Value x (v ∷ []) → NotAbove r.f (read_of v)
+      → (c : Call) (x : List Float) (v : Float) → Memᴰ c (calls f l) → Tells c Value x (v ∷ []) → NotAbove r.f (readOf v)
   -- a fit run again with allowances not lowered, by an objective that answers by the point alone
   pub again : (f g : Fit) (l m : List Answer) (r s : Result) → CallsEnd f l r → CallsEnd g m s → RunsAgain f g → OneObjective (calls f l ++ calls g m) → Both f g l m r s

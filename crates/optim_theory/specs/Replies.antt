@@ -7,10 +7,10 @@ use Rattle.protocol.specs.declared.Allowances.{Allowances}
 use Rattle.protocol.specs.declared.WolfeOptions.{WolfeOptions}
 use Rattle.protocol.specs.Protocol.{Reply, ask, ended, refused}
 use Rattle.optim_record.specs.declared.Record.{Record}
-use Rattle.optim_record.specs.Record.{knownRefusalOf, blankOf, valid_of}
+use Rattle.optim_record.specs.Record.{knownRefusalOf, blankOf, validOf}
 use Rattle.optim_reply.specs.Standing.{standingOf}
 use Rattle.optim_rules.specs.Rules.{repeatsOf}
-use Rattle.optim.specs.Answer.{answer_of}
+use Rattle.optim.specs.Answer.{answerOf}
 use Rattle.optim_start.specs.Start.{differencesOf, simplexOf, searchOf, bfgsOf, lbfgsOf}
 
 -- a question, an outcome, or a refusal of those with its detail
@@ -35,16 +35,16 @@ refusesAnswer k d = (turnsAway k && eqb d 0) || endsJob k d
 
 -- of every record, forged ones too, and every number, letter and list of words
 pub record Answers : Type 0 where
-  pub in_scope : (r : Record) (number kind : ℕ) (words : List Float) → Among refusesAnswer (answer_of r number kind words).0
+  pub in-scope : (r : Record) (number kind : ℕ) (words : List Float) → Among refusesAnswer (answerOf r number kind words).0
   -- refused
-  pub refused-keeps : (r : Record) (number kind : ℕ) (words : List Float) (k d : ℕ) → (answer_of r number kind words).0 ≡ refused k d → T (turnsAway k) → (answer_of r number kind words).1 ≡ r
+  pub refused-keeps : (r : Record) (number kind : ℕ) (words : List Float) (k d : ℕ) → (answerOf r number kind words).0 ≡ refused k d → T (turnsAway k) → (answerOf r number kind words).1 ≡ r
   -- a repeat brings again what stands
-  pub repeat-keeps : (r : Record) (number kind : ℕ) (words : List Float) → valid_of r ≡ true → repeatsOf r.accepted number ≡ true
-      → ((answer_of r number kind words).0 ≡ (standingOf r).0) × ((answer_of r number kind words).1 ≡ r)
+  pub repeat-keeps : (r : Record) (number kind : ℕ) (words : List Float) → validOf r ≡ true → repeatsOf r.accepted number ≡ true
+      → ((answerOf r number kind words).0 ≡ (standingOf r).0) × ((answerOf r number kind words).1 ≡ r)
   -- 1 before all else
-  pub out_of_range : (r : Record) (number kind : ℕ) (words : List Float) → valid_of r ≡ false → answer_of r number kind words ≡ (refused 1 0, r)
+  pub out-of-range : (r : Record) (number kind : ℕ) (words : List Float) → validOf r ≡ false → answerOf r number kind words ≡ (refused 1 0, r)
   -- "A refused start hands back the blank record: all zeros, with the job mark 0, which is unknown, so that `answer` refuses it with 1"
-  pub blank : (number kind : ℕ) (words : List Float) → answer_of blankOf number kind words ≡ (refused 1 0, blankOf)
+  pub blank : (number kind : ℕ) (words : List Float) → answerOf blankOf number kind words ≡ (refused 1 0, blankOf)
 
 -- ---- starts: each meets those of 2 to 14 that concern it, with their details
 
@@ -72,8 +72,8 @@ refusesDifferences k d = eqb d 0 && eqb k 2
 
 -- the reply is of that scope, and "A refused start yields no record": it hands back the blank one
 pub record StartReplies (these : ℕ → ℕ → Bool) (y : Reply × Record) : Type 0 where
-  pub in_scope : Among these y.0
-  pub no_record : (k d : ℕ) → y.0 ≡ refused k d → y.1 ≡ blankOf
+  pub in-scope : Among these y.0
+  pub no-record : (k d : ℕ) → y.0 ≡ refused k d → y.1 ≡ blankOf
 
 -- of every list and all options that are lent to a start
 pub record Starts : Type 0 where

@@ -12,7 +12,7 @@ use Rattle.linesearch_theory.specs.Algorithm.{WolfeResult, Searched, refuses, gi
 use Rattle.linesearch_theory.specs.Counts.{perTrial}
 use Rattle.linesearch_theory.specs.Follows.{SearchZeroPast}
 use Rattle.optim_record.specs.declared.Record.{Record}
-use Rattle.optim_record.specs.Record.{mostEvals, valid_of}
+use Rattle.optim_record.specs.Record.{mostEvals, validOf}
 use Rattle.optim_start.specs.Start.{searchOf}
 use Rattle.optim_theory.specs.Engine.{answerCode}
 use Rattle.optim_theory.specs.Follows.{asTold}
@@ -37,12 +37,12 @@ abbrev pub refusalOf : SearchStart → ℕ × ℕ
 refusalOf s = let why = wolfeRefusal s.options s.x s.d s.f s.g s.step in (why.number, why.detail)
 
 -- a search ends with its `WolfeResult`: success, step, f, x, gradient and trials
-abbrev pub result_by : WolfeResult → SearchResult
-result_by r = record { success = r.success; step = r.at.trial.step; f = r.at.trial.value; x = r.at.x; gradient = r.at.g; trials = r.trials }
+abbrev pub resultBy : WolfeResult → SearchResult
+resultBy r = record { success = r.success; step = r.at.trial.step; f = r.at.trial.value; x = r.at.x; gradient = r.at.g; trials = r.trials }
 
 abbrev pub searchEnding : Searched → Reply
 searchEnding (refuses why) = refused why.number why.detail
-searchEnding (gives r) = ended (searched (result_by r))
+searchEnding (gives r) = ended (searched (resultBy r))
 
 -- 2: "A lent list .. is above 16, .. max_evals above 1,000"
 abbrev pub searchPastLimits : SearchStart → Bool
@@ -74,7 +74,7 @@ pub record SearchFollowsText : Type 0 where
 
 -- no record made by the start of a search and answers ever meets refusal 1
 abbrev pub SearchInRange : Type 0
-SearchInRange = (s : SearchStart) (l : List Answer) → NotRefused (searchCode s).0 → valid_of (codeRun s l).recordNow ≡ true
+SearchInRange = (s : SearchStart) (l : List Answer) → NotRefused (searchCode s).0 → validOf (codeRun s l).recordNow ≡ true
 
 -- the coordinates past n are +0.0 in the line's point, gradient and direction, in the best trial and in the differences
 pub record ZerosIn (r : Record) : Type 0 where

@@ -9,16 +9,16 @@ use Rattle.protocol.specs.Protocol.{Answer, Result, fitted, searched, difference
 use Rattle.protocol.specs.Dialogue.{accepted, Exchange, exchange, Dialogue, begin, called, give, giveAll, run, Brings, answersOf}
 use Rattle.protocol.specs.Calls.{turnedAway}
 use Rattle.protocol.specs.Ask.{Ask, finish, query}
-use Rattle.protocol.specs.Rounds.{Ending, atHead, stops, fails, Rounds, FitLimits, limitsOf, State, open_at, over, Kept, settle, questionAt, standing, isRepeat, answerTo, begun, engine}
+use Rattle.protocol.specs.Rounds.{Ending, atHead, stops, fails, Rounds, FitLimits, limitsOf, State, openAt, over, Kept, settle, questionAt, standing, isRepeat, answerTo, begun, engine}
 use Rattle.protocol.specs.Counts.{Counted}
 use Rattle.protocol.proofs.Replies.{ask≢ended, ended≢refused, fitted-inj}
 use Rattle.protocol.proofs.EngineOne.{Outcomes, more-outcomes, otherwise-ended}
-use Rattle.protocol.proofs.RoundsCalls.{Closed, unmoved, keptAfter, putAfter, after_is}
+use Rattle.protocol.proofs.RoundsCalls.{Closed, unmoved, keptAfter, putAfter, after-is}
 
 module _ (R : Rounds Job) where
   -- an outcome that stands is a refusal, or a result with the counts of es
   abbrev Tally : List Exchange → State R.Position → Type 0
-  Tally es (open_at j x c) = Unit {0}
+  Tally es (openAt j x c) = Unit {0}
   Tally es (over (ask q)) = ⊥
   Tally es (over (ended (fitted r))) = (r.fevals ≡ answersOf Value es) × (r.gevals ≡ answersOf Gradient es)
   Tally es (over (ended (searched s))) = ⊥
@@ -26,7 +26,7 @@ module _ (R : Rounds Job) where
   Tally es (over (refused k d)) = Unit {0}
 
   tally-closed : (es : List Exchange) (s : State R.Position) → Tally es s → Closed R s
-  tally-closed es (open_at j x c) h = tt
+  tally-closed es (openAt j x c) h = tt
   tally-closed es (over (ask q)) h = h
   tally-closed es (over (ended o)) h = tt
   tally-closed es (over (refused k d)) h = tt
@@ -35,15 +35,15 @@ module _ (R : Rounds Job) where
   record Tallied (es : List Exchange) (y : Reply) (r : Kept R.Position) : Type 0 where
     limits : FitLimits
     state : State R.Position
-    record_is : keptAfter R limits es state ≡ r
+    record-is : keptAfter R limits es state ≡ r
     standing-is : standing R (length es) state ≡ y
     tally : Tally es state
 
   put-tallied : (l : FitLimits) (es : List Exchange) (m : Ask (Ending R.Position)) → Tallied es (putAfter R l es m).0 (putAfter R l es m).1
-  put-tallied l es (query j x c) = record { limits = l; state = open_at j x c; record_is = refl; standing-is = refl; tally = tt }
-  put-tallied l es (finish (stops y p)) = record { limits = l; state = (putAfter R l es (finish (stops y p))).1.state; record_is = refl; standing-is = refl; tally = (refl, refl) }
-  put-tallied l es (finish (fails k d)) = record { limits = l; state = over (refused k d); record_is = refl; standing-is = refl; tally = tt }
-  put-tallied l es (finish (atHead p)) = record { limits = l; state = over (refused 1 0); record_is = refl; standing-is = refl; tally = tt }
+  put-tallied l es (query j x c) = record { limits = l; state = openAt j x c; record-is = refl; standing-is = refl; tally = tt }
+  put-tallied l es (finish (stops y p)) = record { limits = l; state = (putAfter R l es (finish (stops y p))).1.state; record-is = refl; standing-is = refl; tally = (refl, refl) }
+  put-tallied l es (finish (fails k d)) = record { limits = l; state = over (refused k d); record-is = refl; standing-is = refl; tally = tt }
+  put-tallied l es (finish (atHead p)) = record { limits = l; state = over (refused 1 0); record-is = refl; standing-is = refl; tally = tt }
 
   -- ---- one answer more
 
@@ -51,13 +51,13 @@ module _ (R : Rounds Job) where
       → Tallied (es ++ exchange y a) (answerTo R r a).0 (answerTo R r a).1
   taken-tallied es y r a h =
       subst₂ (λ (y : Reply) (r : Kept R.Position). accepted y a ≡ true → Tallied (es ++ exchange y a) (answerTo R r a).0 (answerTo R r a).1)
-      h.standing-is h.record_is (go h.state h.tally)
+      h.standing-is h.record-is (go h.state h.tally)
     where
       go : (s : State R.Position) → Tally es s → let z = answerTo R (keptAfter R h.limits es s) a in accepted (standing R (length es) s) a ≡ true
           → Tallied (es ++ exchange (standing R (length es) s) a) z.0 z.1
-      go (open_at j x c) t e =
+      go (openAt j x c) t e =
           let es' = es ++ exchange (ask (questionAt R (length es) j x)) a in
-          subst (λ (z : Reply × Kept R.Position). Tallied es' z.0 z.1) (after_is R h.limits es j x c a e)
+          subst (λ (z : Reply × Kept R.Position). Tallied es' z.0 z.1) (after-is R h.limits es j x c a e)
           (put-tallied h.limits es' (settle R h.limits (answersOf Value es') (c a.words)))
       go (over (ask q)) t e = absurd t
       go (over (ended o)) t e = absurd (false≢true e)
@@ -67,7 +67,7 @@ module _ (R : Rounds Job) where
   left : (es : List Exchange) (y : Reply) (r : Kept R.Position) (a : Answer) → Tallied es y r → accepted y a ≡ false
       → answerTo R r a ≡ (cond (isRepeat R r a) y (turnedAway y a), r)
   left es y r a h =
-      subst₂ (λ (y : Reply) (r : Kept R.Position). accepted y a ≡ false → answerTo R r a ≡ (cond (isRepeat R r a) y (turnedAway y a), r)) h.standing-is h.record_is
+      subst₂ (λ (y : Reply) (r : Kept R.Position). accepted y a ≡ false → answerTo R r a ≡ (cond (isRepeat R r a) y (turnedAway y a), r)) h.standing-is h.record-is
       (unmoved R (keptAfter R h.limits es h.state) a (tally-closed es h.state h.tally))
 
   -- ---- whole lists
@@ -110,7 +110,7 @@ module _ (R : Rounds Job) where
   result-tally es x r h = go h.state h.tally h.standing-is
     where
       go : (s : State R.Position) → Tally es s → standing R (length es) s ≡ ended (fitted x) → (x.fevals ≡ answersOf Value es) × (x.gevals ≡ answersOf Gradient es)
-      go (open_at j y c) t e = absurd (ask≢ended e)
+      go (openAt j y c) t e = absurd (ask≢ended e)
       go (over (ask q)) t e = absurd t
       go (over (ended (fitted y))) t e = subst (λ (z : Result). (z.fevals ≡ answersOf Value es) × (z.gevals ≡ answersOf Gradient es)) (fitted-inj e) t
       go (over (ended (searched s))) t e = absurd t
@@ -122,9 +122,9 @@ module _ (R : Rounds Job) where
 
   pub counted : Counted R
   counted = record {
-    last = λ f l. ap (λ (r : Kept R.Position). r.last) (sym (fine f l).tallied.record_is);
-    values = λ f l. ap (λ (r : Kept R.Position). r.values) (sym (fine f l).tallied.record_is);
-    gradients = λ f l. ap (λ (r : Kept R.Position). r.gradients) (sym (fine f l).tallied.record_is);
+    last = λ f l. ap (λ (r : Kept R.Position). r.last) (sym (fine f l).tallied.record-is);
+    values = λ f l. ap (λ (r : Kept R.Position). r.values) (sym (fine f l).tallied.record-is);
+    gradients = λ f l. ap (λ (r : Kept R.Position). r.gradients) (sym (fine f l).tallied.record-is);
     fevals = λ f l r m. (brought (run (engine R) f l) r (fine f l) m).0;
     gevals = λ f l r m. (brought (run (engine R) f l) r (fine f l) m).1;
   }

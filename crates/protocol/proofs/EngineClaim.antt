@@ -11,7 +11,7 @@ use Rattle.protocol.specs.Dialogue.{suits, Exchange, questionIn, F64s, GivenF64s
 use Rattle.protocol.specs.Claim.{RunsAgain, ByPointAlone, ForAllowance, OfTwo, Claim}
 use Rattle.protocol.specs.EngineLaws.{said, EngineLaws}
 use Rattle.protocol.proofs.Replies.{ask≢ended, ended≢refused, fitted-inj, not-above-self, suits-same}
-use Rattle.protocol.proofs.EngineOne.{talk, ended-stays, refused-stays, more-questions, kept-exchange, fine, of-call, of_one}
+use Rattle.protocol.proofs.EngineOne.{talk, ended-stays, refused-stays, more-questions, kept-exchange, fine, of-call, of-one}
 
 module _ (E : Engine) (L : EngineLaws E) where
   -- what an accepted answer a makes of a dialogue
@@ -46,8 +46,8 @@ module _ (E : Engine) (L : EngineLaws E) where
   low-after g v l ih (ended o) r qs es ys good b c y h = c y (sym (ended-stays E o r qs es ys l).0 ∙ h)
   low-after g v l ih (refused k d) r qs es ys good b c y h = absurd (ended≢refused (sym h ∙ refused-stays E k d r qs es ys l))
 
-  low_step : (g : Fit) (v : Float) (l : List Answer) → Low g v l → (a : Answer) → F64s a.words → Low g v (a ∷ l)
-  low_step g v l ih a w q r qs es ys good b y e = go (suits q a) refl
+  low-step : (g : Fit) (v : Float) (l : List Answer) → Low g v l → (a : Answer) → F64s a.words → Low g v (a ∷ l)
+  low-step g v l ih a w q r qs es ys good b y e = go (suits q a) refl
     where
       ys' : List Reply
       ys' = ys ++ ((E.answer r a).0 ∷ [])
@@ -61,7 +61,7 @@ module _ (E : Engine) (L : EngineLaws E) where
 
   low : (g : Fit) (v : Float) (l : List Answer) → GivenF64s l → Low g v l
   low g v [] w = λ q r qs es ys good b y e. absurd (ask≢ended e)
-  low g v (a ∷ l) w = low_step g v l (low g v l w.1) a w.0
+  low g v (a ∷ l) w = low-step g v l (low g v l w.1) a w.0
 
   -- ---- two lists in step
 
@@ -180,10 +180,10 @@ module _ (E : Engine) (L : EngineLaws E) where
   lock f g (a ∷ l) w = lock-step f g l (lock f g l w.1) a w.0
 
   -- from the starts on
-  of_two : (f g : Fit) (l m : List Answer) (x y : Result) → Started E f → Started E g → GivenF64s l → GivenF64s m → RunsAgain f g
+  of-two : (f g : Fit) (l m : List Answer) (x y : Result) → Started E f → Started E g → GivenF64s l → GivenF64s m → RunsAgain f g
       → ByPointAlone ((run E f l).exchanges ++ (run E g m).exchanges) → (run E f l).standing ≡ ended (fitted x) → (run E g m).standing ≡ ended (fitted y)
       → OfTwo (run E f l) x (run E g m) y
-  of_two f g l m x y sf sg fl fm again o d e = go (E.start f).0 (E.start g).0 refl refl
+  of-two f g l m x y sf sg fl fm again o d e = go (E.start f).0 (E.start g).0 refl refl
     where
       go : (u v : Reply) → (E.start f).0 ≡ u → (E.start g).0 ≡ v → OfTwo (run E f l) x (run E g m) y
       go (ask p) (ask q) i j =
@@ -206,6 +206,6 @@ module _ (E : Engine) (L : EngineLaws E) where
   claim = record {
     starts = L.starts-numbered;
     calls = λ f l a s w wa. of-call E L f (run E f l) a wa (fine E L f l s w);
-    one = λ f l r s w m. of_one E L f (run E f l) r (fine E L f l s w) m;
-    two = λ f g l m r s sf sg wl wm again o i j. of_two f g l m r s sf sg wl wm again o ((fine E L f l sf wl).outcomes r i) ((fine E L g m sg wm).outcomes s j);
+    one = λ f l r s w m. of-one E L f (run E f l) r (fine E L f l s w) m;
+    two = λ f g l m r s sf sg wl wm again o i j. of-two f g l m r s sf sg wl wm again o ((fine E L f l sf wl).outcomes r i) ((fine E L g m sg wm).outcomes s j);
   }

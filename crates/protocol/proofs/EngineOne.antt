@@ -133,5 +133,5 @@ module _ (E : Engine) (L : EngineLaws E) where
       go (ended o) g e = absurd (false≢true e)
       go (refused k c) g e = absurd (false≢true e)
 
-  pub of_one : (f : Fit) (d : Dialogue E.Record) (r : Result) → Fine f d → Brings d r → OfOne f d.exchanges r
-  of_one f d r h m = L.sound f d.exchanges r d.recordNow (subst (λ (y : Reply). L.Good f d.exchanges y d.recordNow) (h.outcomes r m) h.good)
+  pub of-one : (f : Fit) (d : Dialogue E.Record) (r : Result) → Fine f d → Brings d r → OfOne f d.exchanges r
+  of-one f d r h m = L.sound f d.exchanges r d.recordNow (subst (λ (y : Reply). L.Good f d.exchanges y d.recordNow) (h.outcomes r m) h.good)

@@ -15,14 +15,14 @@ use Rattle.float.proofs.Order.{lt→le, le→not-above, lt-number-r, not-above-t
 use Rattle.protocol.specs.declared.Kind.TheVariants.{Value}
 use Rattle.protocol.specs.declared.Termination.{Termination}
 use Rattle.protocol.specs.declared.Termination.TheVariants.{SimplexTolerance}
-use Rattle.protocol.specs.Protocol.{read_of, Job}
+use Rattle.protocol.specs.Protocol.{readOf, Job}
 use Rattle.protocol.specs.Dialogue.{Exchange, Told}
 use Rattle.protocol.specs.Claim.{LeastTold, IsSimplex, Claim}
 use Rattle.protocol.specs.Ask.{Ask, ◌>>=◌, heardAt, wp}
 use Rattle.protocol.specs.Rounds.{Ending, atHead, fails, Verdict, goOn, stop, restart, engine}
 use Rattle.protocol.specs.RoundsLaws.{Own, Begins, EndsAs, OpensAs, Opening, RoundsLaws}
 use Rattle.protocol.specs.Example.{Head, halved, opening, next, round, example}
-use Rattle.protocol.proofs.Readings.{only, read-own, read_below}
+use Rattle.protocol.proofs.Readings.{only, read-own, read-below}
 use Rattle.protocol.proofs.Texts.{grow-one}
 use Rattle.protocol.proofs.Replies.{true-T, not-above-self}
 use Rattle.protocol.proofs.RoundsClaim.{claim-of-rounds}
@@ -36,7 +36,7 @@ module _ (es : List Exchange) (n : ℕ) (y w : List Float) where
 
   -- what was read of it
   abbrev heard : Float
-  heard = read_of (get_or w 0 nan)
+  heard = readOf (get_or w 0 nan)
 
   told-now : length w ≡ 1 → Finite heard → Told more y heard
   told-now l h =
@@ -47,10 +47,10 @@ module _ (es : List Exchange) (n : ℕ) (y w : List Float) where
   least-now f old new x v t =
       ⊎_elim (λ m. old x v (t.0, m, t.2, t.3, t.4)) (λ m. here (Memᴰ.eq_of_singleton m)) (Memᴰ.append_cases es t.1)
     where
-      here : t.0 ≡ heardAt n Value y w → NotAbove f (read_of v)
+      here : t.0 ≡ heardAt n Value y w → NotAbove f (readOf v)
       here e =
           let words : w ≡ v ∷ [] = sym (ap (λ (z : Exchange). z.words) e) ∙ t.4 in
-          subst (λ (l : List Float). NotAbove f (read_of (get_or l 0 nan))) words new
+          subst (λ (l : List Float). NotAbove f (readOf (get_or l 0 nan))) words new
 
 -- ---- the laws
 
@@ -61,35 +61,35 @@ At j es p = Finite p.f × Told es p.x p.f × LeastTold es p.f
 lt-not-above : (v f : Float) → T (lt v f) → NotAbove v f
 lt-not-above v f h = le→not-above v f (lt→le v f h)
 
-none_told : (f : Float) → LeastTold [] f
-none_told f x v t = absurd (Memᴰ.not-nil t.1)
+none-told : (f : Float) → LeastTold [] f
+none-told f x v t = absurd (Memᴰ.not-nil t.1)
 
 -- a number not above the least told is not above what is told
 least-below : (es : List Exchange) (f v : Float) → Number f → NotAbove v f → LeastTold es f → LeastTold es v
-least-below es f v n h l x u t = not-above-trans v f (read_of u) n h (l x u t)
+least-below es f v n h l x u t = not-above-trans v f (readOf u) n h (l x u t)
 
 opening-ok : (j : Job) (x : List Float) → Opening example IsSimplex At j (opening x)
 unfolding ◌>>=◌
 opening-ok j [] = tt
-opening-ok j (u ∷ x) = λ n w l fs. go n w l (finiteOf (read_of (get_or w 0 nan))) refl
+opening-ok j (u ∷ x) = λ n w l fs. go n w l (finiteOf (readOf (get_or w 0 nan))) refl
   where
-    go : (n : ℕ) (w : List Float) → length w ≡ 1 → (b : Bool) → finiteOf (read_of (get_or w 0 nan)) ≡ b
-        → OpensAs example IsSimplex At j (more [] n (u ∷ x) w) (cond b (atHead (record { x = u ∷ x; f = read_of (get_or w 0 nan); iterations = 0 })) (fails 20 0))
+    go : (n : ℕ) (w : List Float) → length w ≡ 1 → (b : Bool) → finiteOf (readOf (get_or w 0 nan)) ≡ b
+        → OpensAs example IsSimplex At j (more [] n (u ∷ x) w) (cond b (atHead (record { x = u ∷ x; f = readOf (get_or w 0 nan); iterations = 0 })) (fails 20 0))
     go n w l true e =
-        let finite : Finite (read_of (get_or w 0 nan)) = true-T _ e in
-        (finite, told-now [] n (u ∷ x) w l finite, least-now [] n (u ∷ x) w (read_of (get_or w 0 nan)) (none_told _) (not-above-self _))
+        let finite : Finite (readOf (get_or w 0 nan)) = true-T _ e in
+        (finite, told-now [] n (u ∷ x) w l finite, least-now [] n (u ∷ x) w (readOf (get_or w 0 nan)) (none-told _) (not-above-self _))
     go n w l false e = tt
 
 round-ok : (j : Job) (es : List Exchange) (p : Head) → At j es p → Begins (round p) × wp es (round p) (EndsAs example IsSimplex At j p.f)
 unfolding ◌>>=◌
-round-ok j es p at = (tt, λ n w l fs. go n w l (lt (read_of (get_or w 0 nan)) p.f) refl)
+round-ok j es p at = (tt, λ n w l fs. go n w l (lt (readOf (get_or w 0 nan)) p.f) refl)
   where
-    go : (n : ℕ) (w : List Float) → length w ≡ 1 → (b : Bool) → lt (read_of (get_or w 0 nan)) p.f ≡ b
-        → EndsAs example IsSimplex At j p.f (more es n (halved p.x) w) (atHead (next p (halved p.x) (read_of (get_or w 0 nan)) b))
+    go : (n : ℕ) (w : List Float) → length w ≡ 1 → (b : Bool) → lt (readOf (get_or w 0 nan)) p.f ≡ b
+        → EndsAs example IsSimplex At j p.f (more es n (halved p.x) w) (atHead (next p (halved p.x) (readOf (get_or w 0 nan)) b))
     go n w l true e =
-        let v : Float = read_of (get_or w 0 nan) in
+        let v : Float = readOf (get_or w 0 nan) in
         let less : T (lt v p.f) = true-T _ e in
-        let finite : Finite v = read_below (get_or w 0 nan) p.f less in
+        let finite : Finite v = read-below (get_or w 0 nan) p.f less in
         let below : NotAbove v p.f = lt-not-above v p.f less in
         ((finite, told-now es n (halved p.x) w l finite, least-now es n (halved p.x) w v (least-below es p.f v (lt-number-r v p.f less) below at.2) (not-above-self v)), below)
     go n w l false e =

@@ -13,7 +13,7 @@ use Rattle.protocol.specs.Protocol.{Job, simplex, bfgs, lbfgs}
 use Rattle.protocol.specs.Ask.{Ask, finish, query, ◌>>=◌}
 use Rattle.protocol.specs.Rounds.{Ending, atHead, stops, fails, Verdict, goOn, stop, restart, Rounds, FitLimits, reached}
 use Rattle.protocol.specs.Dialogue.{ofKind}
-use Rattle.protocol.specs.Bounds.{Keeps, of_both, BoundLaws}
+use Rattle.protocol.specs.Bounds.{Keeps, ofBoth, BoundLaws}
 use Rattle.protocol.specs.Fits.{mapText, mapVerdict, Positions, iterationsOf, openingOf, testsOf, roundOf, fits}
 use Rattle.protocol.proofs.Verdicts.{stop≢restart, go-on≢restart, restart-inj}
 
@@ -46,13 +46,13 @@ module _ (A : Rounds SimplexOptions) (B : Rounds (Bool × GradientOptions)) (κ 
     restarts k (inl p) m a e = restart-map inl κ bound N.Head Left (λ k p a. a) k (A.tests p) m e (λ n i. N.restart-keeps k p n a i)
     restarts k (inr p) m a e = absurd a
 
-    rounds : (v g : ℕ) (p : Positions A B) → Left (of_both κ v g) p → reached (iterationsOf A B p) l.iter ≡ false → reached v l.fevals ≡ false
-        → Keeps κ bound Left (of_both κ v g) (roundOf A B p)
-    rounds v g (inl p) a i j = left (of_both κ v g) (A.round p) (N.round_keeps v g p a i j)
+    rounds : (v g : ℕ) (p : Positions A B) → Left (ofBoth κ v g) p → reached (iterationsOf A B p) l.iter ≡ false → reached v l.fevals ≡ false
+        → Keeps κ bound Left (ofBoth κ v g) (roundOf A B p)
+    rounds v g (inl p) a i j = left (ofBoth κ v g) (A.round p) (N.round-keeps v g p a i j)
     rounds v g (inr p) a i j = absurd a
 
     pub simplex-bounds : BoundLaws (fits A B) κ bound l (simplex o) x
-    simplex-bounds = record { Head = Left; opening-keeps = left 0 (A.opening o x) N.opening-keeps; restart-keeps = restarts; round_keeps = rounds }
+    simplex-bounds = record { Head = Left; opening-keeps = left 0 (A.opening o x) N.opening-keeps; restart-keeps = restarts; round-keeps = rounds }
 
   module _ (limited : Bool) (o : GradientOptions) (N : BoundLaws B κ bound l (limited, o) x) where
     abbrev Right : ℕ → Positions A B → Type 0
@@ -66,17 +66,17 @@ module _ (A : Rounds SimplexOptions) (B : Rounds (Bool × GradientOptions)) (κ 
     again k (inl p) m a e = absurd a
     again k (inr p) m a e = restart-map inr κ bound N.Head Right (λ k p a. a) k (B.tests p) m e (λ n i. N.restart-keeps k p n a i)
 
-    onward : (v g : ℕ) (p : Positions A B) → Right (of_both κ v g) p → reached (iterationsOf A B p) l.iter ≡ false → reached v l.fevals ≡ false
-        → Keeps κ bound Right (of_both κ v g) (roundOf A B p)
+    onward : (v g : ℕ) (p : Positions A B) → Right (ofBoth κ v g) p → reached (iterationsOf A B p) l.iter ≡ false → reached v l.fevals ≡ false
+        → Keeps κ bound Right (ofBoth κ v g) (roundOf A B p)
     onward v g (inl p) a i j = absurd a
-    onward v g (inr p) a i j = right (of_both κ v g) (B.round p) (N.round_keeps v g p a i j)
+    onward v g (inr p) a i j = right (ofBoth κ v g) (B.round p) (N.round-keeps v g p a i j)
 
     gradient-bounds : (j : Job) → openingOf A B j x ≡ mapText inr (B.opening (limited, o) x) → BoundLaws (fits A B) κ bound l j x
     gradient-bounds j e = record {
       Head = Right;
       opening-keeps = subst (Keeps κ bound Right 0) (sym e) (right 0 (B.opening (limited, o) x) N.opening-keeps);
       restart-keeps = again;
-      round_keeps = onward;
+      round-keeps = onward;
     }
 
   pub bfgs-bounds : (o : GradientOptions) → BoundLaws B κ bound l (false, o) x → BoundLaws (fits A B) κ bound l (bfgs o) x

@@ -14,7 +14,7 @@ use Rattle.protocol.specs.Claim.{IsSimplex}
 use Rattle.protocol.specs.Ask.{Ask, finish, query, ◌>>=◌, wp}
 use Rattle.protocol.specs.Rounds.{Ending, atHead, stops, fails, Verdict, goOn, stop, restart, Rounds}
 use Rattle.protocol.specs.RoundsLaws.{Known, Own, Begins, EndsAs, OpensAs, Opening, RoundsLaws}
-use Rattle.protocol.specs.Fits.{mapEnding, mapText, mapVerdict, f_of, openingOf, testsOf, roundOf, fits}
+use Rattle.protocol.specs.Fits.{mapEnding, mapText, mapVerdict, fOf, openingOf, testsOf, roundOf, fits}
 use Rattle.protocol.proofs.Texts.{wp-bind, wp-map}
 use Rattle.protocol.proofs.Verdicts.{stop≢restart, go-on≢restart, go-on≢stop, stop-inj, restart-inj}
 
@@ -24,18 +24,18 @@ use Rattle.protocol.proofs.Verdicts.{stop≢restart, go-on≢restart, go-on≢st
 module _ {S : Type 0} (R : Rounds S) (Least : S → Type 0) (L : RoundsLaws R Least) (Q : Rounds Job)
     (f : R.Position → Q.Position) (x-is : (p : R.Position) → R.x p ≡ Q.x (f p)) (f-is : (p : R.Position) → R.f p ≡ Q.f (f p))
     (At : Job → List Exchange → Q.Position → Type 0) (s : S) (j : Job) (at : (es : List Exchange) (p : R.Position) → L.At s es p → At j es (f p)) (least : IsSimplex j → Least s) where
-  known_map : (es : List Exchange) (p : R.Position) → Known (Least s) es (R.x p) (R.f p) → Known (IsSimplex j) es (Q.x (f p)) (Q.f (f p))
-  known_map es p k =
+  known-map : (es : List Exchange) (p : R.Position) → Known (Least s) es (R.x p) (R.f p) → Known (IsSimplex j) es (Q.x (f p)) (Q.f (f p))
+  known-map es p k =
       subst (λ (x : List Float). Known (IsSimplex j) es x (Q.f (f p))) (x-is p) (subst (λ (v : Float). Known (IsSimplex j) es (R.x p) v) (f-is p) (k.0, k.1, λ i. k.2 (least i)))
 
   ends-map : (v : Float) (es : List Exchange) (o : Ending R.Position) → EndsAs R Least L.At s v es o → EndsAs Q IsSimplex At j v es (mapEnding f o)
   ends-map v es (atHead p) h = (at es p h.0, subst (λ (z : Float). NotAbove z v) (f-is p) h.1)
-  ends-map v es (stops y p) h = (known_map es p h.0, subst (λ (z : Float). NotAbove z v) (f-is p) h.1, h.2)
+  ends-map v es (stops y p) h = (known-map es p h.0, subst (λ (z : Float). NotAbove z v) (f-is p) h.1, h.2)
   ends-map v es (fails k d) h = h
 
   opens-map : (es : List Exchange) (o : Ending R.Position) → OpensAs R Least L.At s es o → OpensAs Q IsSimplex At j es (mapEnding f o)
   opens-map es (atHead p) h = at es p h
-  opens-map es (stops y p) h = (known_map es p h.0, h.1)
+  opens-map es (stops y p) h = (known-map es p h.0, h.1)
   opens-map es (fails k d) h = h
 
   wp-text : (es : List Exchange) (m : Ask (Ending R.Position)) (P : List Exchange → Ending R.Position → Type 0) (T : List Exchange → Ending Q.Position → Type 0)
@@ -109,7 +109,7 @@ module _ (A : Rounds SimplexOptions) (B : Rounds (Bool × GradientOptions)) (LA 
   stop-law (lbfgs o) es (inr p) y a e = LB.stop-ok (true, o) es p y a (stop-map inr (B.tests p) y e)
 
   restart-law : (j : Job) (es : List Exchange) (p : R.Position) (m : Ask (Ending R.Position)) → At j es p → testsOf A B p ≡ restart m
-      → Begins m × wp es m (EndsAs R IsSimplex At j (f_of A B p))
+      → Begins m × wp es m (EndsAs R IsSimplex At j (fOf A B p))
   restart-law (simplex o) es (inl p) m a e =
       restart-map A (λ o. Unit {0}) LA R inl (λ p. refl) (λ p. refl) At o (simplex o) (λ es p a. a) (λ i. tt) es p (A.tests p) m e (λ n i. LA.restart-ok o es p n a i)
   restart-law (simplex o) es (inr p) m a e = absurd a
@@ -120,7 +120,7 @@ module _ (A : Rounds SimplexOptions) (B : Rounds (Bool × GradientOptions)) (LA 
   restart-law (lbfgs o) es (inr p) m a e =
       restart-map B (λ s. ⊥) LB R inr (λ p. refl) (λ p. refl) At (true, o) (lbfgs o) (λ es p a. a) (λ i. i) es p (B.tests p) m e (λ n i. LB.restart-ok (true, o) es p n a i)
 
-  round-law : (j : Job) (es : List Exchange) (p : R.Position) → At j es p → Begins (roundOf A B p) × wp es (roundOf A B p) (EndsAs R IsSimplex At j (f_of A B p))
+  round-law : (j : Job) (es : List Exchange) (p : R.Position) → At j es p → Begins (roundOf A B p) × wp es (roundOf A B p) (EndsAs R IsSimplex At j (fOf A B p))
   round-law (simplex o) es (inl p) a = turn-map A (λ o. Unit {0}) LA R inl (λ p. refl) (λ p. refl) At o (simplex o) (λ es p a. a) (λ i. tt) es p (A.round p) (LA.round-ok o es p a)
   round-law (simplex o) es (inr p) a = absurd a
   round-law (bfgs o) es (inl p) a = absurd a

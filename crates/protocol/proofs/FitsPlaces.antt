@@ -13,7 +13,7 @@ use Rattle.protocol.specs.Ask.{Ask, query, ◌>>=◌}
 use Rattle.protocol.specs.Rounds.{Ending, Verdict, goOn, stop, restart, Rounds}
 use Rattle.protocol.specs.RoundsLaws.{RoundsLaws}
 use Rattle.protocol.specs.Fits.{mapText, mapVerdict, Positions, fits}
-use Rattle.protocol.specs.Places.{Turn, still, ends, text, Steps, StepsLaws, mapTurn, Places, kind_of, point_of, step_of, openingTurn, againTurn, roundTurn, fitsSteps, engineOfPlaces}
+use Rattle.protocol.specs.Places.{Turn, still, ends, text, Steps, StepsLaws, mapTurn, Places, kindOf, pointOf, stepOf, openingTurn, againTurn, roundTurn, fitsSteps, engineOfPlaces}
 use Rattle.protocol.proofs.Verdicts.{stop≢restart, go-on≢restart, restart-inj}
 use Rattle.protocol.proofs.FitsLaws.{fits-laws}
 use Rattle.protocol.proofs.Places.{claim-of-places}
@@ -44,7 +44,7 @@ module _ (A : Rounds SimplexOptions) (B : Rounds (Bool × GradientOptions)) (SA 
   toDo (inl s) = mapText inl (LA.toDo s)
   toDo (inr s) = mapText inr (LB.toDo s)
 
-  follows : (s : Places A B SA SB) → toDo s ≡ query (kind_of A B SA SB s) (point_of A B SA SB s) (λ w. text toDo (step_of A B SA SB s w))
+  follows : (s : Places A B SA SB) → toDo s ≡ query (kindOf A B SA SB s) (pointOf A B SA SB s) (λ w. text toDo (stepOf A B SA SB s w))
   follows (inl s) = follows-map inl inl LA.toDo toDo (λ z. refl) s (SA.kind s) (SA.point s) (SA.step s) (LA.follows s)
   follows (inr s) = follows-map inr inr LB.toDo toDo (λ z. refl) s (SB.kind s) (SB.point s) (SB.step s) (LB.follows s)
 

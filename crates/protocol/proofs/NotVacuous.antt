@@ -11,7 +11,7 @@ use lib.Ieee.Bits.{of_bits-fits}
 use Rattle.float.specs.Binary64.{bits}
 use Rattle.float.specs.Values.{finiteOf}
 use Rattle.protocol.specs.declared.Kind.{Kind}
-use Rattle.protocol.specs.Protocol.{Answer, Result, fitted, ask, ended, refused, read_of, Fit, Engine}
+use Rattle.protocol.specs.Protocol.{Answer, Result, fitted, ask, ended, refused, readOf, Fit, Engine}
 use Rattle.protocol.specs.Dialogue.{Exchange, F64s, GivenF64s, run}
 use Rattle.protocol.specs.Claim.{ByPointAlone, OfOne, OfTwo, Claim}
 use Rattle.protocol.specs.Ask.{◌>>=◌}
@@ -21,11 +21,11 @@ use Rattle.protocol.proofs.ExampleLaws.{example-claim}
 
 -- ---- the hypotheses suffice
 
-pub of_one : {E : Engine} {f : Fit} {l : List Answer} {r : Result} → Claim E → Reaches E f l r → OfOne f (run E f l).exchanges r
-of_one {f = f} {l = l} {r = r} c h = c.one f l r h.started h.given h.brings
+pub of-one : {E : Engine} {f : Fit} {l : List Answer} {r : Result} → Claim E → Reaches E f l r → OfOne f (run E f l).exchanges r
+of-one {f = f} {l = l} {r = r} c h = c.one f l r h.started h.given h.brings
 
-pub of_two : {E : Engine} {f g : Fit} {l m : List Answer} {r s : Result} → Claim E → Pair E f g l m r s → OfTwo (run E f l) r (run E g m) s
-of_two {f = f} {g = g} {l = l} {m = m} {r = r} {s = s} c h =
+pub of-two : {E : Engine} {f g : Fit} {l m : List Answer} {r s : Result} → Claim E → Pair E f g l m r s → OfTwo (run E f l) r (run E g m) s
+of-two {f = f} {g = g} {l = l} {m = m} {r = r} {s = s} c h =
     c.two f g l m r s h.first.started h.second.started h.first.given h.second.given h.again h.by-point h.first.brings h.second.brings
 
 -- ---- one objective: the words are a function of kind and point
@@ -53,7 +53,7 @@ own k x = x
 -- ---- what each list is replied
 
 short-replies : (run (engine example) (sample (given 1)) shortAnswers).replies ≡ ask (questionFor 1 one) ∷ ask (questionFor 2 half) ∷ ended (fitted shortResult) ∷ []
-unfolding of_bits mul lt finiteOf read_of ◌>>=◌
+unfolding of_bits mul lt finiteOf readOf ◌>>=◌
 short-replies = refl
 
 long-replies : (run (engine example) (sample (given 5)) longAnswers).replies
@@ -65,13 +65,13 @@ long-replies : (run (engine example) (sample (given 5)) longAnswers).replies
     ∷ ask (questionFor 4 eighth)
     ∷ ended (fitted longResult)
     ∷ []
-unfolding of_bits mul lt finiteOf read_of ◌>>=◌
+unfolding of_bits mul lt finiteOf readOf ◌>>=◌
 long-replies = refl
 
 -- max_iter is absent, and the 1 beside it is not looked at
 plain-replies : (run (engine example) (sample (absent 1)) plainAnswers).replies
     ≡ ask (questionFor 1 one) ∷ ask (questionFor 2 half) ∷ ask (questionFor 3 quarter) ∷ ask (questionFor 4 eighth) ∷ ended (fitted longResult) ∷ []
-unfolding of_bits mul lt finiteOf read_of ◌>>=◌
+unfolding of_bits mul lt finiteOf readOf ◌>>=◌
 plain-replies = refl
 
 -- ---- the first part's hypotheses
@@ -109,11 +109,11 @@ plain-reaches = record { started = tt; given = plain-given; brings = rw plain-re
 -- ---- the second part's
 
 short-long-own : AnsweredBy own ((run (engine example) (sample (given 1)) shortAnswers).exchanges ++ (run (engine example) (sample (given 5)) longAnswers).exchanges)
-unfolding of_bits mul lt finiteOf read_of ◌>>=◌
+unfolding of_bits mul lt finiteOf readOf ◌>>=◌
 short-long-own = (refl, (refl, (refl, (refl, (refl, (refl, tt))))))
 
 long-plain-own : AnsweredBy own ((run (engine example) (sample (given 5)) longAnswers).exchanges ++ (run (engine example) (sample (absent 1)) plainAnswers).exchanges)
-unfolding of_bits mul lt finiteOf read_of ◌>>=◌
+unfolding of_bits mul lt finiteOf readOf ◌>>=◌
 long-plain-own = (refl, (refl, (refl, (refl, (refl, (refl, (refl, (refl, tt))))))))
 
 -- the first stops for an allowance that is then raised
@@ -139,10 +139,10 @@ own-end =
 -- ---- the two parts hold of them
 
 pub short-one : OfOne (sample (given 1)) (run (engine example) (sample (given 1)) shortAnswers).exchanges shortResult
-short-one = of_one example-claim short-reaches
+short-one = of-one example-claim short-reaches
 
 pub raised-two : OfTwo (run (engine example) (sample (given 1)) shortAnswers) shortResult (run (engine example) (sample (given 5)) longAnswers) longResult
-raised-two = of_two example-claim raised
+raised-two = of-two example-claim raised
 
 pub own-end-two : OfTwo (run (engine example) (sample (given 5)) longAnswers) longResult (run (engine example) (sample (absent 1)) plainAnswers) longResult
-own-end-two = of_two example-claim own-end
+own-end-two = of-two example-claim own-end

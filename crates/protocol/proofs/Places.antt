@@ -11,9 +11,9 @@ use Rattle.protocol.specs.Dialogue.{wanted, ofKind}
 use Rattle.protocol.specs.Claim.{IsSimplex, Claim}
 use Rattle.protocol.specs.Ask.{Ask, finish, query}
 use Rattle.protocol.specs.PastLimits.{pastLimits}
-use Rattle.protocol.specs.Rounds.{Ending, atHead, stops, fails, Verdict, goOn, stop, restart, Rounds, FitLimits, reached, limitsOf, State, open_at, over, Kept, kept, allowed, headed, settle, put, standing, accept, fresh, answerTo, begun, engine}
+use Rattle.protocol.specs.Rounds.{Ending, atHead, stops, fails, Verdict, goOn, stop, restart, Rounds, FitLimits, reached, limitsOf, State, openAt, over, Kept, kept, allowed, headed, settle, put, standing, accept, fresh, answerTo, begun, engine}
 use Rattle.protocol.specs.RoundsLaws.{RoundsLaws}
-use Rattle.protocol.specs.Places.{still, ends, text, Steps, StepsLaws, Held, at, closed, Placed, Turns, allowedTurn, headedTurn, settleTurn, putTurn, standingAt, acceptAt, freshAt, answerAt, begunTurn, start_at, engineOfPlaces}
+use Rattle.protocol.specs.Places.{still, ends, text, Steps, StepsLaws, Held, at, closed, Placed, Turns, allowedTurn, headedTurn, settleTurn, putTurn, standingAt, acceptAt, freshAt, answerAt, begunTurn, startAt, engineOfPlaces}
 use Rattle.protocol.specs.Follow.{Follows}
 use Rattle.protocol.proofs.RoundsClaim.{claim-of-rounds}
 use Rattle.protocol.proofs.Follow.{claim-follows}
@@ -24,7 +24,7 @@ module _ (R : Rounds Job) (S : Steps R) (L : StepsLaws R S) where
 
   -- the record of the texts that a record of places stands for
   abbrev viewHeld : Held S.Place → State R.Position
-  viewHeld (at s) = open_at (S.kind s) (S.point s) (λ w. words (S.step s w))
+  viewHeld (at s) = openAt (S.kind s) (S.point s) (λ w. words (S.step s w))
   viewHeld (closed y) = over y
 
   abbrev view : Placed S.Place → Kept R.Position
@@ -50,18 +50,18 @@ module _ (R : Rounds Job) (S : Steps R) (L : StepsLaws R S) where
       go (stop y) e = refl
       go (restart m) e = L.restarts p m e
 
-  put_view : (l : FitLimits) (n v g : ℕ) (t : Turns R S) → Same (putTurn R S l n v g t) (put R l n v g (words t))
-  put_view l n v g (still s) = subst (λ (m : Ask (Ending R.Position)). Same (putTurn R S l n v g (still s)) (put R l n v g m)) (sym (L.follows s)) (refl, refl)
-  put_view l n v g (ends (atHead p)) = (refl, refl)
-  put_view l n v g (ends (stops y p)) = (refl, refl)
-  put_view l n v g (ends (fails k d)) = (refl, refl)
+  put-view : (l : FitLimits) (n v g : ℕ) (t : Turns R S) → Same (putTurn R S l n v g t) (put R l n v g (words t))
+  put-view l n v g (still s) = subst (λ (m : Ask (Ending R.Position)). Same (putTurn R S l n v g (still s)) (put R l n v g m)) (sym (L.follows s)) (refl, refl)
+  put-view l n v g (ends (atHead p)) = (refl, refl)
+  put-view l n v g (ends (stops y p)) = (refl, refl)
+  put-view l n v g (ends (fails k d)) = (refl, refl)
 
   accept-view : (r : Placed S.Place) (s : S.Place) (a : Answer) → Same (acceptAt R S r s a) (accept R (view r) (S.kind s) (λ w. words (S.step s w)) a)
   accept-view r s a =
       let v = r.values + ofKind Value (S.kind s) in
       let g = r.gradients + ofKind Gradient (S.kind s) in
       subst (λ (m : Ask (Ending R.Position)). Same (acceptAt R S r s a) (put R r.limits (suc r.last) v g m)) (settled-text r.limits v (S.step s a.words))
-      (put_view r.limits (suc r.last) v g (settleTurn R S r.limits v (S.step s a.words)))
+      (put-view r.limits (suc r.last) v g (settleTurn R S r.limits v (S.step s a.words)))
 
   fresh-view : (r : Placed S.Place) (h : Held S.Place) (a : Answer) → Same (freshAt R S r h a) (fresh R (view r) (viewHeld h) a)
   fresh-view r (closed y) a = (refl, refl)
@@ -127,11 +127,11 @@ module _ (R : Rounds Job) (S : Steps R) (L : StepsLaws R S) where
       go true = refl
       go false = L.opens f.job f.x0
 
-  pub places-follow : Follows (Placed S.Place) (Kept R.Position) (start_at R S) (answerAt R S) (engine R).start (engine R).answer
+  pub places-follow : Follows (Placed S.Place) (Kept R.Position) (startAt R S) (answerAt R S) (engine R).start (engine R).answer
   places-follow = record {
     Related = λ r s. view r ≡ s;
     starts = λ f.
-        let h = subst (λ (m : Ask (Ending R.Position)). Same (start_at R S f) (put R (limitsOf f) 0 0 0 m)) (begun-text f) (put_view (limitsOf f) 0 0 0 (begunTurn R S f)) in
+        let h = subst (λ (m : Ask (Ending R.Position)). Same (startAt R S f) (put R (limitsOf f) 0 0 0 m)) (begun-text f) (put-view (limitsOf f) 0 0 0 (begunTurn R S f)) in
         (h.0, λ n. h.1);
     answers = λ r s a w e. subst (λ (z : Kept R.Position). Same (answerAt R S r a) (answerTo R z a)) e (answer-view r a);
     stays = λ r s a w e. subst (λ (z : Kept R.Position). (answerTo R z a).1 ≡ z → (answerAt R S r a).1 ≡ r) e (stays-answer r a);
@@ -139,4 +139,4 @@ module _ (R : Rounds Job) (S : Steps R) (L : StepsLaws R S) where
 
   -- a record of places has the claim of the texts
   pub claim-of-places : RoundsLaws R IsSimplex → Claim (engineOfPlaces R S)
-  claim-of-places M = claim-follows (Placed S.Place) (Kept R.Position) (start_at R S) (answerAt R S) (engine R).start (engine R).answer places-follow (claim-of-rounds R M)
+  claim-of-places M = claim-follows (Placed S.Place) (Kept R.Position) (startAt R S) (answerAt R S) (engine R).start (engine R).answer places-follow (claim-of-rounds R M)

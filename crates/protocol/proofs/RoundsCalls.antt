@@ -17,29 +17,29 @@ use Rattle.protocol.specs.Calls.{lastAccepted, repeats, turnedAway}
 use Rattle.protocol.specs.Claim.{Limit, limit, unlimited, ◌⊑◌}
 use Rattle.protocol.specs.Ask.{Ask, heardAt}
 use Rattle.protocol.specs.EngineLaws.{said}
-use Rattle.protocol.specs.Rounds.{Ending, Rounds, FitLimits, reached, State, open_at, over, Kept, settle, questionAt, kept, put, standing, accept, fresh, isRepeat, answerTo}
-use Rattle.protocol.proofs.Replies.{and_left, true-T, eqb-true}
+use Rattle.protocol.specs.Rounds.{Ending, Rounds, FitLimits, reached, State, openAt, over, Kept, settle, questionAt, kept, put, standing, accept, fresh, isRepeat, answerTo}
+use Rattle.protocol.proofs.Replies.{and-left, true-T, eqb-true}
 
 -- ---- limits
 
-T_true : (b : Bool) → T b → b ≡ true
-T_true true t = refl
-T_true false t = absurd t
+T-true : (b : Bool) → T b → b ≡ true
+T-true true t = refl
+T-true false t = absurd t
 
 pub reached-used : (k : ℕ) (l : Limit) → reached k l ≡ true → l ⊑ limit k
 reached-used k (limit n) e = leb→le n k (true-T (leb n k) e)
 reached-used k unlimited e = absurd (false≢true e)
 
 pub reached-mono : (k : ℕ) (a b : Limit) → a ⊑ b → reached k b ≡ true → reached k a ≡ true
-reached-mono k (limit m) (limit n) h e = T_true (leb m k) (le→leb m k (le_trans h (leb→le n k (true-T (leb n k) e))))
+reached-mono k (limit m) (limit n) h e = T-true (leb m k) (le→leb m k (le_trans h (leb→le n k (true-T (leb n k) e))))
 reached-mono k (limit m) unlimited h e = absurd (false≢true e)
 reached-mono k unlimited (limit n) h e = absurd h
 reached-mono k unlimited unlimited h e = absurd (false≢true e)
 
 -- ---- counts and numbers, with one exchange more
 
-pub one_more : (es : List Exchange) (e : Exchange) → suc (length es) ≡ length (es ++ (e ∷ []))
-one_more es e = simp length-append (omega arith)
+pub one-more : (es : List Exchange) (e : Exchange) → suc (length es) ≡ length (es ++ (e ∷ []))
+one-more es e = simp length-append (omega arith)
 
 pub answers-more : (k : Kind) (es : List Exchange) (e : Exchange) → answersOf k es + ofKind k e.question.kind ≡ answersOf k (es ++ (e ∷ []))
 answers-more k [] e = swap (ofKind k e.question.kind)
@@ -48,20 +48,20 @@ answers-more k [] e = swap (ofKind k e.question.kind)
     swap m = omega arith
 answers-more k (d ∷ es) e = let h = answers-more k es e in omega (arith, h)
 
-last_more : (es : List Exchange) (e : Exchange) → lastAccepted (es ++ (e ∷ [])) ≡ some e.question.number
-last_more [] e = refl
-last_more (d ∷ []) e = refl
-last_more (d ∷ c ∷ es) e = last_more (c ∷ es) e
+last-more : (es : List Exchange) (e : Exchange) → lastAccepted (es ++ (e ∷ [])) ≡ some e.question.number
+last-more [] e = refl
+last-more (d ∷ []) e = refl
+last-more (d ∷ c ∷ es) e = last-more (c ∷ es) e
 
 -- the number last accepted, of n accepted answers
-abbrev pub last_of : ℕ → Option ℕ
-last_of zero = none
-last_of (suc n) = some (suc n)
+abbrev pub lastOf : ℕ → Option ℕ
+lastOf zero = none
+lastOf (suc n) = some (suc n)
 
-pub number_more : (es : List Exchange) (j : Kind) (x w : List Float) → let es' = es ++ (heardAt (suc (length es)) j x w ∷ []) in lastAccepted es' ≡ last_of (length es')
-number_more es j x w = last_more es (heardAt (suc (length es)) j x w) ∙ ap last_of (one_more es (heardAt (suc (length es)) j x w))
+pub number-more : (es : List Exchange) (j : Kind) (x w : List Float) → let es' = es ++ (heardAt (suc (length es)) j x w ∷ []) in lastAccepted es' ≡ lastOf (length es')
+number-more es j x w = last-more es (heardAt (suc (length es)) j x w) ∙ ap lastOf (one-more es (heardAt (suc (length es)) j x w))
 
-pub same-repeat : (n : ℕ) (a : Answer) → repeats (last_of n) a ≡ not (eqb n 0) && eqb a.number n
+pub same-repeat : (n : ℕ) (a : Answer) → repeats (lastOf n) a ≡ not (eqb n 0) && eqb a.number n
 same-repeat zero a = refl
 same-repeat (suc n) a = go (eqb (suc n) 0) refl
   where
@@ -88,11 +88,11 @@ no-repeat n a e = go (eqb n 0) (eqb a.number n) refl
 
 module _ (R : Rounds Job) where
   pub taken : (l : FitLimits) (n v g : ℕ) (j : Kind) (x : List Float) (c : List Float → Ask (Ending R.Position)) (a : Answer) → suits (questionAt R n j x) a ≡ true
-      → answerTo R (kept R l n v g (open_at j x c)) a ≡ accept R (kept R l n v g (open_at j x c)) j c a
-  taken l n v g j x c a e = go (isRepeat R r a) number fits (no-repeat n a (and_left number fits e)) e
+      → answerTo R (kept R l n v g (openAt j x c)) a ≡ accept R (kept R l n v g (openAt j x c)) j c a
+  taken l n v g j x c a e = go (isRepeat R r a) number fits (no-repeat n a (and-left number fits e)) e
     where
       r : Kept R.Position
-      r = kept R l n v g (open_at j x c)
+      r = kept R l n v g (openAt j x c)
 
       number : Bool
       number = eqb a.number (suc n)
@@ -109,7 +109,7 @@ module _ (R : Rounds Job) where
 
   -- an outcome that stands is no question
   abbrev pub Closed : State R.Position → Type 0
-  Closed (open_at j x c) = Unit {0}
+  Closed (openAt j x c) = Unit {0}
   Closed (over (ask q)) = ⊥
   Closed (over (ended o)) = Unit {0}
   Closed (over (refused k d)) = Unit {0}
@@ -124,7 +124,7 @@ module _ (R : Rounds Job) where
       go false (over (ask q)) k e = absurd k
       go false (over (ended o)) k e = refl
       go false (over (refused m d)) k e = refl
-      go false (open_at j x c) k e = which (eqb a.number (suc r.last)) (eqb a.kind (letter j) && eqb (length a.words) (wanted j x)) e
+      go false (openAt j x c) k e = which (eqb a.number (suc r.last)) (eqb a.kind (letter j) && eqb (length a.words) (wanted j x)) e
         where
           which : (y z : Bool) → y && z ≡ false
               → cond (not y) (refused 16 0, r) (cond (not z) (refused 17 0, r) (accept R r j c a)) ≡ (cond y (refused 17 0) (refused 16 0), r)
@@ -141,14 +141,14 @@ module _ (R : Rounds Job) where
   putAfter l es m = put R l (length es) (answersOf Value es) (answersOf Gradient es) m
 
   -- the reply and the record after an accepted answer
-  pub after_is : (l : FitLimits) (es : List Exchange) (j : Kind) (x : List Float) (c : List Float → Ask (Ending R.Position)) (a : Answer)
+  pub after-is : (l : FitLimits) (es : List Exchange) (j : Kind) (x : List Float) (c : List Float → Ask (Ending R.Position)) (a : Answer)
       → suits (questionAt R (length es) j x) a ≡ true
       → let es' = es ++ said (questionAt R (length es) j x) a in
-      putAfter l es' (settle R l (answersOf Value es') (c a.words)) ≡ answerTo R (keptAfter l es (open_at j x c)) a
-  after_is l es j x c a e =
+      putAfter l es' (settle R l (answersOf Value es') (c a.words)) ≡ answerTo R (keptAfter l es (openAt j x c)) a
+  after-is l es j x c a e =
       let d : Exchange = record { question = questionAt R (length es) j x; words = a.words } in
-      sym (counts (one_more es d) (answers-more Value es d) (answers-more Gradient es d)) ∙ sym (taken l (length es) (answersOf Value es) (answersOf Gradient es) j x c a e)
+      sym (counts (one-more es d) (answers-more Value es d) (answers-more Gradient es d)) ∙ sym (taken l (length es) (answersOf Value es) (answersOf Gradient es) j x c a e)
     where
       counts : {n v g : ℕ} → suc (length es) ≡ n → answersOf Value es + ofKind Value j ≡ v → answersOf Gradient es + ofKind Gradient j ≡ g
-          → accept R (keptAfter l es (open_at j x c)) j c a ≡ put R l n v g (settle R l v (c a.words))
+          → accept R (keptAfter l es (openAt j x c)) j c a ≡ put R l n v g (settle R l v (c a.words))
       counts p q r = λ i. put R l (p i) (q i) (r i) (settle R l (q i) (c a.words))

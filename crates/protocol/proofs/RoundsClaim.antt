@@ -8,7 +8,7 @@ use lib.ListN.{length}
 use lib.Ieee.{Float}
 use Rattle.float.specs.Binary64.{Number, NotAbove}
 use Rattle.float.proofs.Order.{not-above-trans}
-use Rattle.float.proofs.Signs.{finite_number}
+use Rattle.float.proofs.Signs.{finite-number}
 use Rattle.protocol.specs.declared.Kind.{Kind}
 use Rattle.protocol.specs.declared.Kind.TheVariants.{Value, Gradient}
 use Rattle.protocol.specs.declared.Termination.{Termination}
@@ -19,14 +19,14 @@ use Rattle.protocol.specs.Calls.{Numbered}
 use Rattle.protocol.specs.Claim.{IsSimplex, ◌⊑◌, RunsAgain, ForAllowance, Claim}
 use Rattle.protocol.specs.Ask.{Ask, finish, query, heardAt, wp}
 use Rattle.protocol.specs.PastLimits.{pastLimits}
-use Rattle.protocol.specs.Rounds.{Ending, atHead, stops, fails, Verdict, goOn, stop, restart, Rounds, FitLimits, reached, limitsOf, State, open_at, over, Kept, result_at, allowed, headed, settle, questionAt, put, answerTo, begun, engine}
+use Rattle.protocol.specs.Rounds.{Ending, atHead, stops, fails, Verdict, goOn, stop, restart, Rounds, FitLimits, reached, limitsOf, State, openAt, over, Kept, resultAt, allowed, headed, settle, questionAt, put, answerTo, begun, engine}
 use Rattle.protocol.specs.RoundsLaws.{EndsAs, Opening, RoundsLaws}
 use Rattle.protocol.specs.EngineLaws.{said, EngineLaws}
 use Rattle.protocol.proofs.Texts.{wp-map}
 use Rattle.protocol.proofs.Replies.{ask≢ended, ended≢refused, fitted-inj, ask-inj, not-above-self, suits-length}
 use Rattle.protocol.proofs.EngineClaim.{claim}
-use Rattle.protocol.proofs.RoundsCalls.{reached-mono, keptAfter, after_is}
-use Rattle.protocol.proofs.RoundsGood.{Opened, Good, at_open, law-replies, law-takes, law-numbers, law-sound}
+use Rattle.protocol.proofs.RoundsCalls.{reached-mono, keptAfter, after-is}
+use Rattle.protocol.proofs.RoundsGood.{Opened, Good, at-open, law-replies, law-takes, law-numbers, law-sound}
 
 -- limits of which neither is lowered
 abbrev within : FitLimits → FitLimits → Type 0
@@ -44,7 +44,7 @@ module _ (R : Rounds Job) (L : RoundsLaws R IsSimplex) where
   Bound v es (fails k d) = Unit {0}
 
   abbrev BelowState : Float → State R.Position → Type 0
-  BelowState v (open_at k x c) = (es : List Exchange) × wp es (query k x c) (Bound v)
+  BelowState v (openAt k x c) = (es : List Exchange) × wp es (query k x c) (Bound v)
   BelowState v (over y) = Unit {0}
 
   abbrev BelowText : Float → Text → Type 0
@@ -71,7 +71,7 @@ module _ (R : Rounds Job) (L : RoundsLaws R IsSimplex) where
   turned-below : (j : Job) (es : List Exchange) (p : R.Position) (v : Float) (m : Text) → L.At j es p → NotAbove (R.f p) v → wp es m (EndsAs R IsSimplex L.At j (R.f p))
       → BelowText v m
   turned-below j es p v m a b h =
-      text-below es v m (wp-map es m (EndsAs R IsSimplex L.At j (R.f p)) (Bound v) (ends-bound j (R.f p) v (finite_number (R.f p) (L.known j es p a).0) b) h)
+      text-below es v m (wp-map es m (EndsAs R IsSimplex L.At j (R.f p)) (Bound v) (ends-bound j (R.f p) v (finite-number (R.f p) (L.known j es p a).0) b) h)
 
   head-below : (j : Job) (es : List Exchange) (l : FitLimits) (n : ℕ) (v : Float) (p : R.Position) → L.At j es p → NotAbove (R.f p) v → BelowText v (headed R l n (R.tests p) p)
   head-below j es l n v p a b = go (R.tests p) refl
@@ -101,11 +101,11 @@ module _ (R : Rounds Job) (L : RoundsLaws R IsSimplex) where
   law-below : (f : Fit) (es : List Exchange) (q : Question) (r : Kept R.Position) (a : Answer) (v : Float)
       → Good R L f es (ask q) r → suits q a ≡ true → F64s a.words → BelowState v r.state → BelowReply v (answerTo R r a)
   law-below f es q r a v g =
-      at_open R L f es q r (λ q r. suits q a ≡ true → F64s a.words → BelowState v r.state → BelowReply v (answerTo R r a)) g
+      at-open R L f es q r (λ q r. suits q a ≡ true → F64s a.words → BelowState v r.state → BelowReply v (answerTo R r a)) g
       (λ j x c k e ws b.
       let es' = es ++ said (questionAt R (length es) j x) a in
       let fit = suits-length (questionAt R (length es) j x) a e in
-      subst (BelowReply v) (after_is R (limitsOf f) es j x c a e)
+      subst (BelowReply v) (after-is R (limitsOf f) es j x c a e)
       (put-below (limitsOf f) (length es') (answersOf Value es') (answersOf Gradient es') v (settle R (limitsOf f) (answersOf Value es') (c a.words))
       (settle-below f.job es' (b.0 ++ (heardAt 0 j x a.words ∷ [])) (limitsOf f) (answersOf Value es') v (c a.words)
       (k (suc (length es)) a.words fit ws) (b.1 0 a.words fit ws))))
@@ -161,18 +161,18 @@ module _ (R : Rounds Job) (L : RoundsLaws R IsSimplex) where
         | inl e ↦ inl (subst (λ (m : Text). Alike (put R l n v g first) (put R l' n v g m)) e (put-alike l l' n v g w first))
         | inr a ↦
             let b = put-below l' n v g (R.f p) (headed R l' v (R.tests p) p) (head-below j es l' v (R.f p) p h (not-above-self (R.f p))) in
-            inr (result_at R a.0 v g p, ap (λ (m : Text). (put R l n v g m).0) a.2, a.1, b.0, b.1)
+            inr (resultAt R a.0 v g p, ap (λ (m : Text). (put R l n v g m).0) a.2, a.1, b.0, b.1)
       ]
 
   law-together : (f g : Fit) (es : List Exchange) (q : Question) (r s : Kept R.Position) (a : Answer)
       → Good R L f es (ask q) r → Good R L g es (ask q) s → Like r s → suits q a ≡ true → F64s a.words → Together (answerTo R r a) (answerTo R s a)
   law-together f g es q r s a gf gg like e ws =
-      at_open R L f es q r (λ q r. Like r s → suits q a ≡ true → F64s a.words → Together (answerTo R r a) (answerTo R s a)) gf
+      at-open R L f es q r (λ q r. Like r s → suits q a ≡ true → F64s a.words → Together (answerTo R r a) (answerTo R s a)) gf
       (λ j x c k like d ws.
       let es' = es ++ said (questionAt R (length es) j x) a in
-      let there : keptAfter R s.limits es (open_at j x c) ≡ s = λ i. record { limits = s.limits; last = like.0 i; values = like.1 i; gradients = like.2 i; state = like.3 i } in
-      subst (λ (z : Kept R.Position). Together (answerTo R (keptAfter R (limitsOf f) es (open_at j x c)) a) (answerTo R z a)) there
-      (subst₂ Together (after_is R (limitsOf f) es j x c a d) (after_is R s.limits es j x c a d)
+      let there : keptAfter R s.limits es (openAt j x c) ≡ s = λ i. record { limits = s.limits; last = like.0 i; values = like.1 i; gradients = like.2 i; state = like.3 i } in
+      subst (λ (z : Kept R.Position). Together (answerTo R (keptAfter R (limitsOf f) es (openAt j x c)) a) (answerTo R z a)) there
+      (subst₂ Together (after-is R (limitsOf f) es j x c a d) (after-is R s.limits es j x c a d)
       (settled-together f.job es' (limitsOf f) s.limits (length es') (answersOf Value es') (answersOf Gradient es') like.4 (c a.words)
       (k (suc (length es)) a.words (suits-length (questionAt R (length es) j x) a d) ws))))
       like e ws
@@ -201,7 +201,7 @@ module _ (R : Rounds Job) (L : RoundsLaws R IsSimplex) where
   law-start : (f : Fit) → Started (engine R) f → Good R L f [] ((engine R).start f).0 ((engine R).start f).1
   law-start f s =
       begun-case f (λ m. Good R L f [] (put R (limitsOf f) 0 0 0 m).0 (put R (limitsOf f) 0 0 0 m).1) s
-      (λ k x c e h. record { state = open_at k x c; record_is = refl; standing-is = refl; numbered = refl; state-ok = h })
+      (λ k x c e h. record { state = openAt k x c; record-is = refl; standing-is = refl; numbered = refl; state-ok = h })
 
   put-numbered : (l : FitLimits) (n v g : ℕ) (m : Text) → Numbered n (put R l n v g m).0
   put-numbered l n v g (query k x c) = refl

@@ -17,12 +17,12 @@ use Rattle.protocol.specs.Dialogue.{suits, accepted, F64s, Exchange, answersOf}
 use Rattle.protocol.specs.Calls.{Taken, Numbered, endsFit, lastAccepted, repeats, turnedAway, otherwise}
 use Rattle.protocol.specs.Claim.{IsSimplex, limit, ◌⊑◌, ForAllowance, OfOne}
 use Rattle.protocol.specs.Ask.{Ask, finish, query, wp}
-use Rattle.protocol.specs.Rounds.{Ending, atHead, stops, fails, Verdict, goOn, stop, restart, Rounds, reached, limitsOf, State, open_at, over, Kept, result_at, allowed, headed, settle, questionAt, standing, answerTo}
+use Rattle.protocol.specs.Rounds.{Ending, atHead, stops, fails, Verdict, goOn, stop, restart, Rounds, reached, limitsOf, State, openAt, over, Kept, resultAt, allowed, headed, settle, questionAt, standing, answerTo}
 use Rattle.protocol.specs.RoundsLaws.{Known, Own, Begins, EndsAs, OpensAs, RoundsLaws}
 use Rattle.protocol.specs.EngineLaws.{said}
 use Rattle.protocol.proofs.Texts.{wp-map}
 use Rattle.protocol.proofs.Replies.{ask≢ended, ask≢refused, ended≢refused, fitted-inj, ask-inj, suits-length}
-use Rattle.protocol.proofs.RoundsCalls.{reached-used, one_more, last_of, number_more, same-repeat, Closed, unmoved, keptAfter, putAfter, after_is}
+use Rattle.protocol.proofs.RoundsCalls.{reached-used, one-more, lastOf, number-more, same-repeat, Closed, unmoved, keptAfter, putAfter, after-is}
 
 two-allowances : MaxIterations ≡ MaxFevals → ⊥
 two-allowances e = let z : ◌≡◌ {A = ℕ} 0 1 = cc in omega arith
@@ -37,7 +37,7 @@ module _ (R : Rounds Job) (L : RoundsLaws R IsSimplex) where
   -- ---- the record along a list
 
   abbrev StateOk : Fit → List Exchange → State R.Position → Type 0
-  StateOk f es (open_at k x c) = wp es (query k x c) (Opened f.job)
+  StateOk f es (openAt k x c) = wp es (query k x c) (Opened f.job)
   StateOk f es (over (ask q)) = ⊥
   StateOk f es (over (ended (fitted r))) = OfOne f es r
   StateOk f es (over (ended (searched s))) = ⊥
@@ -45,26 +45,26 @@ module _ (R : Rounds Job) (L : RoundsLaws R IsSimplex) where
   StateOk f es (over (refused k d)) = Unit {0}
 
   ok-closed : (f : Fit) (es : List Exchange) (s : State R.Position) → StateOk f es s → Closed R s
-  ok-closed f es (open_at k x c) h = tt
+  ok-closed f es (openAt k x c) h = tt
   ok-closed f es (over (ask q)) h = h
   ok-closed f es (over (ended o)) h = tt
   ok-closed f es (over (refused k d)) h = tt
 
   pub record Good (f : Fit) (es : List Exchange) (y : Reply) (r : Kept R.Position) : Type 0 where
     pub state : State R.Position
-    pub record_is : keptAfter R (limitsOf f) es state ≡ r
+    pub record-is : keptAfter R (limitsOf f) es state ≡ r
     pub standing-is : standing R (length es) state ≡ y
-    pub numbered : lastAccepted es ≡ last_of (length es)
+    pub numbered : lastAccepted es ≡ lastOf (length es)
     pub state-ok : StateOk f es state
 
   -- at an open question
-  pub at_open : (f : Fit) (es : List Exchange) (q : Question) (r : Kept R.Position) (P : Question → Kept R.Position → Type 0) → Good f es (ask q) r
-      → ((j : Kind) (x : List Float) (c : List Float → Text) → wp es (query j x c) (Opened f.job) → P (questionAt R (length es) j x) (keptAfter R (limitsOf f) es (open_at j x c)))
+  pub at-open : (f : Fit) (es : List Exchange) (q : Question) (r : Kept R.Position) (P : Question → Kept R.Position → Type 0) → Good f es (ask q) r
+      → ((j : Kind) (x : List Float) (c : List Float → Text) → wp es (query j x c) (Opened f.job) → P (questionAt R (length es) j x) (keptAfter R (limitsOf f) es (openAt j x c)))
       → P q r
-  at_open f es q r P g h = go g.state g.state-ok g.standing-is g.record_is
+  at-open f es q r P g h = go g.state g.state-ok g.standing-is g.record-is
     where
       go : (s : State R.Position) → StateOk f es s → standing R (length es) s ≡ ask q → keptAfter R (limitsOf f) es s ≡ r → P q r
-      go (open_at j x c) k e i = subst₂ P (ask-inj e) i (h j x c k)
+      go (openAt j x c) k e i = subst₂ P (ask-inj e) i (h j x c k)
       go (over (ask p)) k e i = absurd k
       go (over (ended o)) k e i = absurd (ask≢ended (sym e))
       go (over (refused m d)) k e i = absurd (ask≢refused (sym e))
@@ -74,7 +74,7 @@ module _ (R : Rounds Job) (L : RoundsLaws R IsSimplex) where
   pub law-replies : (f : Fit) (es : List Exchange) (y : Reply) (r : Kept R.Position) (a : Answer) → Good f es y r → accepted y a ≡ false
       → ((answerTo R r a).0 ≡ otherwise y es a) × ((answerTo R r a).1 ≡ r)
   law-replies f es y r a g =
-      subst₂ (λ (y : Reply) (r : Kept R.Position). accepted y a ≡ false → ((answerTo R r a).0 ≡ otherwise y es a) × ((answerTo R r a).1 ≡ r)) g.standing-is g.record_is
+      subst₂ (λ (y : Reply) (r : Kept R.Position). accepted y a ≡ false → ((answerTo R r a).0 ≡ otherwise y es a) × ((answerTo R r a).1 ≡ r)) g.standing-is g.record-is
       (λ e.
       let y = standing R (length es) g.state in
       let u = unmoved R (keptAfter R (limitsOf f) es g.state) a (ok-closed f es g.state g.state-ok) e in
@@ -86,16 +86,16 @@ module _ (R : Rounds Job) (L : RoundsLaws R IsSimplex) where
   abbrev Placed : Fit → List Exchange → Text → Type 0
   Placed f es (query k x c) = wp es (query k x c) (Opened f.job)
   Placed f es (finish (atHead p)) = ⊥
-  Placed f es (finish (stops y p)) = OfOne f es (result_at R y (answersOf Value es) (answersOf Gradient es) p)
+  Placed f es (finish (stops y p)) = OfOne f es (resultAt R y (answersOf Value es) (answersOf Gradient es) p)
   Placed f es (finish (fails k d)) = T (endsFit k d)
 
   known-one : (f : Fit) (es : List Exchange) (y : Termination) (p : R.Position) → Known (IsSimplex f.job) es (R.x p) (R.f p)
       → (y ≡ MaxIterations → (limitsOf f).iter ⊑ limit (R.iterations p)) → (y ≡ MaxFevals → (limitsOf f).fevals ⊑ limit (answersOf Value es))
-      → OfOne f es (result_at R y (answersOf Value es) (answersOf Gradient es) p)
+      → OfOne f es (resultAt R y (answersOf Value es) (answersOf Gradient es) p)
   known-one f es y p k i j = record { told = k.1; finite-f = k.0; least = k.2; fevals = refl; gevals = refl; iter-used = i; fevals-used = j }
 
   own-one : (f : Fit) (es : List Exchange) (y : Termination) (p : R.Position) → Known (IsSimplex f.job) es (R.x p) (R.f p) → Own y
-      → OfOne f es (result_at R y (answersOf Value es) (answersOf Gradient es) p)
+      → OfOne f es (resultAt R y (answersOf Value es) (answersOf Gradient es) p)
   own-one f es y p k o = known-one f es y p k (λ e. absurd (o (subst ForAllowance (sym e) tt))) (λ e. absurd (o (subst ForAllowance (sym e) tt)))
 
   ends-opens : (j : Job) (v : Float) (es : List Exchange) (o : Ending R.Position) → EndsAs R IsSimplex L.At j v es o → Opened j es o
@@ -133,30 +133,30 @@ module _ (R : Rounds Job) (L : RoundsLaws R IsSimplex) where
 
   -- ---- an accepted answer
 
-  put-good : (f : Fit) (es : List Exchange) (m : Text) → lastAccepted es ≡ last_of (length es) → Placed f es m
+  put-good : (f : Fit) (es : List Exchange) (m : Text) → lastAccepted es ≡ lastOf (length es) → Placed f es m
       → let z = putAfter R (limitsOf f) es m in Taken z.0 × Good f es z.0 z.1
-  put-good f es (query k x c) n h = (tt, record { state = open_at k x c; record_is = refl; standing-is = refl; numbered = n; state-ok = h })
+  put-good f es (query k x c) n h = (tt, record { state = openAt k x c; record-is = refl; standing-is = refl; numbered = n; state-ok = h })
   put-good f es (finish (atHead p)) n h = absurd h
   put-good f es (finish (stops y p)) n h =
-      let o = ended (fitted (result_at R y (answersOf Value es) (answersOf Gradient es) p)) in
-      (tt, record { state = over o; record_is = refl; standing-is = refl; numbered = n; state-ok = h })
-  put-good f es (finish (fails k d)) n h = (h, record { state = over (refused k d); record_is = refl; standing-is = refl; numbered = n; state-ok = tt })
+      let o = ended (fitted (resultAt R y (answersOf Value es) (answersOf Gradient es) p)) in
+      (tt, record { state = over o; record-is = refl; standing-is = refl; numbered = n; state-ok = h })
+  put-good f es (finish (fails k d)) n h = (h, record { state = over (refused k d); record-is = refl; standing-is = refl; numbered = n; state-ok = tt })
 
   pub law-takes : (f : Fit) (es : List Exchange) (q : Question) (r : Kept R.Position) (a : Answer) → Good f es (ask q) r → suits q a ≡ true → F64s a.words
       → Taken (answerTo R r a).0 × Good f (es ++ said q a) (answerTo R r a).0 (answerTo R r a).1
   law-takes f es q r a g =
-      at_open f es q r (λ q r. suits q a ≡ true → F64s a.words → Taken (answerTo R r a).0 × Good f (es ++ said q a) (answerTo R r a).0 (answerTo R r a).1) g
+      at-open f es q r (λ q r. suits q a ≡ true → F64s a.words → Taken (answerTo R r a).0 × Good f (es ++ said q a) (answerTo R r a).0 (answerTo R r a).1) g
       (λ j x c k e ws.
       let es' = es ++ said (questionAt R (length es) j x) a in
-      subst (λ (z : Reply × Kept R.Position). Taken z.0 × Good f es' z.0 z.1) (after_is R (limitsOf f) es j x c a e)
-      (put-good f es' (settle R (limitsOf f) (answersOf Value es') (c a.words)) (number_more es j x a.words)
+      subst (λ (z : Reply × Kept R.Position). Taken z.0 × Good f es' z.0 z.1) (after-is R (limitsOf f) es j x c a e)
+      (put-good f es' (settle R (limitsOf f) (answersOf Value es') (c a.words)) (number-more es j x a.words)
       (settle-placed f es' (c a.words) (k (suc (length es)) a.words (suits-length (questionAt R (length es) j x) a e) ws))))
 
   good-numbered : (f : Fit) (es : List Exchange) (y : Reply) (r : Kept R.Position) → Good f es y r → Numbered (length es) y
   good-numbered f es y r g = subst (Numbered (length es)) g.standing-is (go g.state g.state-ok)
     where
       go : (s : State R.Position) → StateOk f es s → Numbered (length es) (standing R (length es) s)
-      go (open_at j x c) k = refl
+      go (openAt j x c) k = refl
       go (over (ask q)) k = absurd k
       go (over (ended (fitted x))) k = tt
       go (over (ended (searched s))) k = k
@@ -166,14 +166,14 @@ module _ (R : Rounds Job) (L : RoundsLaws R IsSimplex) where
   pub law-numbers : (f : Fit) (es : List Exchange) (q : Question) (r : Kept R.Position) (a : Answer) → Good f es (ask q) r → suits q a ≡ true → F64s a.words
       → Numbered (suc (length es)) (answerTo R r a).0
   law-numbers f es q r a g e w =
-      subst (λ (n : ℕ). Numbered n (answerTo R r a).0) (sym (one_more es (record { question = q; words = a.words })))
+      subst (λ (n : ℕ). Numbered n (answerTo R r a).0) (sym (one-more es (record { question = q; words = a.words })))
       (good-numbered f (es ++ said q a) (answerTo R r a).0 (answerTo R r a).1 (law-takes f es q r a g e w).1)
 
   pub law-sound : (f : Fit) (es : List Exchange) (x : Result) (r : Kept R.Position) → Good f es (ended (fitted x)) r → OfOne f es x
   law-sound f es x r g = go g.state g.state-ok g.standing-is
     where
       go : (s : State R.Position) → StateOk f es s → standing R (length es) s ≡ ended (fitted x) → OfOne f es x
-      go (open_at j y c) k e = absurd (ask≢ended e)
+      go (openAt j y c) k e = absurd (ask≢ended e)
       go (over (ask q)) k e = absurd k
       go (over (ended (fitted y))) k e = subst (OfOne f es) (fitted-inj e) k
       go (over (ended (searched s))) k e = absurd k

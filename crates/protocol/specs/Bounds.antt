@@ -23,9 +23,9 @@ module _ {Position : Type 0} (κ : Kind) (bound : ℕ) (Head : ℕ → Position 
   Keeps k (finish (fails m d)) = Unit {0}
 
 -- of v values and g gradients, those of the kind
-abbrev pub of_both : Kind → ℕ → ℕ → ℕ
-of_both Value v g = v
-of_both Gradient v g = g
+abbrev pub ofBoth : Kind → ℕ → ℕ → ℕ
+ofBoth Value v g = v
+ofBoth Gradient v g = g
 
 -- what a fit owes for the bound, started with s at x under the limits l
 pub record BoundLaws {Start : Type 0} (R : Rounds Start) (κ : Kind) (bound : ℕ) (l : FitLimits) (s : Start) (x : List Float) : Type 1 where
@@ -33,8 +33,8 @@ pub record BoundLaws {Start : Type 0} (R : Rounds Start) (κ : Kind) (bound : �
   pub Head : ℕ → R.Position → Type 0
   pub opening-keeps : Keeps κ bound Head 0 (R.opening s x)
   pub restart-keeps : (k : ℕ) (p : R.Position) (m : Ask (Ending R.Position)) → Head k p → R.tests p ≡ restart m → Keeps κ bound Head k m
-  pub round_keeps : (v g : ℕ) (p : R.Position) → Head (of_both κ v g) p → reached (R.iterations p) l.iter ≡ false → reached v l.fevals ≡ false
-      → Keeps κ bound Head (of_both κ v g) (R.round p)
+  pub round-keeps : (v g : ℕ) (p : R.Position) → Head (ofBoth κ v g) p → reached (R.iterations p) l.iter ≡ false → reached v l.fevals ≡ false
+      → Keeps κ bound Head (ofBoth κ v g) (R.round p)
 
 -- how many questions are of the kind
 abbrev pub questionsOf : Kind → List Question → ℕ

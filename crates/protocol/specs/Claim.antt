@@ -13,13 +13,13 @@ use Rattle.float.specs.Values.{Finite}
 use Rattle.protocol.specs.declared.Kind.TheVariants.{Value, Gradient}
 use Rattle.protocol.specs.declared.Termination.{Termination}
 use Rattle.protocol.specs.declared.Termination.TheVariants.{GradientTolerance, SimplexTolerance, StepTolerance, FunctionTolerance, MaxIterations, MaxFevals, LineSearchFailed, GradientFailed, ObjectiveResolution}
-use Rattle.protocol.specs.Protocol.{Question, Answer, Result, read_of, Job, simplex, bfgs, lbfgs, Fit, allowanceOf, Engine}
+use Rattle.protocol.specs.Protocol.{Question, Answer, Result, readOf, Job, simplex, bfgs, lbfgs, Fit, allowanceOf, Engine}
 use Rattle.protocol.specs.Dialogue.{F64s, GivenF64s, Exchange, Dialogue, run, Started, Brings, Told, answersOf}
 use Rattle.protocol.specs.Calls.{Numbered, OfCall}
 
 -- "larger and least go by f64's `<`": nothing told is less than f, non-finite read as infinity
 abbrev pub LeastTold : List Exchange → Float → Type 0
-LeastTold es f = (x : List Float) (v : Float) → Told es x v → NotAbove f (read_of v)
+LeastTold es f = (x : List Float) (v : Float) → Told es x v → NotAbove f (readOf v)
 
 abbrev pub IsSimplex : Job → Type 0
 IsSimplex (simplex o) = Unit {0}

@@ -8,7 +8,7 @@ use Rattle.protocol.specs.declared.Allowance.{Allowance}
 use Rattle.protocol.specs.declared.Kind.TheVariants.{Value}
 use Rattle.protocol.specs.declared.Termination.{Termination}
 use Rattle.protocol.specs.declared.Termination.TheVariants.{SimplexTolerance, MaxIterations}
-use Rattle.protocol.specs.Protocol.{letter, Question, Answer, converges, Result, read_of, Job, simplex, bfgs, Fit, Engine}
+use Rattle.protocol.specs.Protocol.{letter, Question, Answer, converges, Result, readOf, Job, simplex, bfgs, Fit, Engine}
 use Rattle.protocol.specs.Dialogue.{GivenF64s, run, Started, Brings}
 use Rattle.protocol.specs.Claim.{RunsAgain, ByPointAlone}
 use Rattle.protocol.specs.Ask.{Ask, finish, ◌>>=◌, askValue}
@@ -32,7 +32,7 @@ valued x v = finish (cond (finiteOf v) (atHead (record { x = x; f = v; iteration
 -- 9 where there is no coordinate
 abbrev pub opening : List Float → Ask (Ending Head)
 opening [] = finish (fails 9 0)
-opening (v ∷ x) = askValue read_of (v ∷ x) >>= valued (v ∷ x)
+opening (v ∷ x) = askValue readOf (v ∷ x) >>= valued (v ∷ x)
 
 -- three iterations and no more
 abbrev pub tests : Head → Verdict Head
@@ -48,7 +48,7 @@ abbrev pub compared : Head → List Float → Float → Ask (Ending Head)
 compared p y v = finish (atHead (next p y v (lt v p.f)))
 
 abbrev pub round : Head → Ask (Ending Head)
-round p = askValue read_of (halved p.x) >>= compared p (halved p.x)
+round p = askValue readOf (halved p.x) >>= compared p (halved p.x)
 
 -- the fit, of every job
 abbrev pub example : Rounds Job

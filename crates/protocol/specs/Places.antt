@@ -11,7 +11,7 @@ use Rattle.protocol.specs.Protocol.{letter, Answer, fitted, Reply, ask, ended, r
 use Rattle.protocol.specs.Dialogue.{wanted, ofKind}
 use Rattle.protocol.specs.Ask.{Ask, finish, query}
 use Rattle.protocol.specs.PastLimits.{pastLimits}
-use Rattle.protocol.specs.Rounds.{Ending, atHead, stops, fails, Verdict, goOn, stop, restart, Rounds, FitLimits, reached, limitsOf, result_at, questionAt}
+use Rattle.protocol.specs.Rounds.{Ending, atHead, stops, fails, Verdict, goOn, stop, restart, Rounds, FitLimits, reached, limitsOf, resultAt, questionAt}
 use Rattle.protocol.specs.Fits.{mapEnding, Positions, fits}
 
 -- where a step leads: to a place where a question stands open, or to the text's end
@@ -89,7 +89,7 @@ module _ (R : Rounds Job) (S : Steps R) where
 
   abbrev pub putTurn : FitLimits → ℕ → ℕ → ℕ → Turns → Reply × Placed S.Place
   putTurn l n v g (still s) = (ask (questionAt R n (S.kind s) (S.point s)), placed l n v g (at s))
-  putTurn l n v g (ends (stops y p)) = close l n v g (ended (fitted (result_at R y v g p)))
+  putTurn l n v g (ends (stops y p)) = close l n v g (ended (fitted (resultAt R y v g p)))
   putTurn l n v g (ends (fails k d)) = close l n v g (refused k d)
   -- never met: no opening, round or restart is at a head before it has asked
   putTurn l n v g (ends (atHead p)) = close l n v g (refused 1 0)
@@ -120,12 +120,12 @@ module _ (R : Rounds Job) (S : Steps R) where
   abbrev pub begunTurn : Fit → Turns
   begunTurn f = cond (pastLimits f) (ends (fails 2 0)) (S.opening f.job f.x0)
 
-  abbrev pub start_at : Fit → Reply × Placed S.Place
-  start_at f = putTurn (limitsOf f) 0 0 0 (begunTurn f)
+  abbrev pub startAt : Fit → Reply × Placed S.Place
+  startAt f = putTurn (limitsOf f) 0 0 0 (begunTurn f)
 
   -- the engine whose record holds a place
   abbrev pub engineOfPlaces : Engine
-  engineOfPlaces = record { Record = Placed S.Place; start = start_at; answer = answerAt }
+  engineOfPlaces = record { Record = Placed S.Place; start = startAt; answer = answerAt }
 
 -- ---- two such records as one: a fit is at a place of the one or of the other
 
@@ -139,17 +139,17 @@ module _ (A : Rounds SimplexOptions) (B : Rounds (Bool × GradientOptions)) (SA 
   abbrev pub Places : Type 0
   Places = SA.Place ⊎ SB.Place
 
-  abbrev pub kind_of : Places → Kind
-  kind_of (inl s) = SA.kind s
-  kind_of (inr s) = SB.kind s
+  abbrev pub kindOf : Places → Kind
+  kindOf (inl s) = SA.kind s
+  kindOf (inr s) = SB.kind s
 
-  abbrev pub point_of : Places → List Float
-  point_of (inl s) = SA.point s
-  point_of (inr s) = SB.point s
+  abbrev pub pointOf : Places → List Float
+  pointOf (inl s) = SA.point s
+  pointOf (inr s) = SB.point s
 
-  abbrev pub step_of : Places → List Float → Turn Places (Positions A B)
-  step_of (inl s) w = mapTurn inl inl (SA.step s w)
-  step_of (inr s) w = mapTurn inr inr (SB.step s w)
+  abbrev pub stepOf : Places → List Float → Turn Places (Positions A B)
+  stepOf (inl s) w = mapTurn inl inl (SA.step s w)
+  stepOf (inr s) w = mapTurn inr inr (SB.step s w)
 
   -- the turns are those of the job's fit, or of the one that the place or the position is of
   abbrev pub openingTurn : Job → List Float → Turn Places (Positions A B)
@@ -167,4 +167,4 @@ module _ (A : Rounds SimplexOptions) (B : Rounds (Bool × GradientOptions)) (SA 
 
   -- the steps of the fit of any job
   abbrev pub fitsSteps : Steps (fits A B)
-  fitsSteps = record { Place = Places; kind = kind_of; point = point_of; step = step_of; opening = openingTurn; again = againTurn; round = roundTurn }
+  fitsSteps = record { Place = Places; kind = kindOf; point = pointOf; step = stepOf; opening = openingTurn; again = againTurn; round = roundTurn }

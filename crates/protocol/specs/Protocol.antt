@@ -94,8 +94,8 @@ replyOf Differenced n x g = ended (differenced (first n g))
 replyOf (Refused k d) n x g = refused k d
 
 -- "In fits `Counted` reads any non-finite value as +infinity."
-unfoldable pub read_of : Float → Float
-read_of v = cond (finiteOf v) v (inf false)
+unfoldable pub readOf : Float → Float
+readOf v = cond (finiteOf v) v (inf false)
 
 -- ---- fits
 

@@ -49,7 +49,7 @@ limitsOf f = record { iter = iterAllowance f; fevals = fevalsAllowance f }
 
 -- what a record holds: an open question with the rest of the text, or an outcome
 pub data State (Position : Type 0) : Type 0 where
-  open_at : Kind → List Float → (List Float → Ask (Ending Position)) → State Position
+  openAt : Kind → List Float → (List Float → Ask (Ending Position)) → State Position
   over : Reply → State Position
 
 pub record Kept (Position : Type 0) : Type 0 where
@@ -60,8 +60,8 @@ pub record Kept (Position : Type 0) : Type 0 where
   pub state : State Position
 
 module _ (R : Rounds Job) where
-  abbrev pub result_at : Termination → ℕ → ℕ → R.Position → Result
-  result_at y v g p = record { reason = y; converged = converges y; iterations = R.iterations p; fevals = v; gevals = g; f = R.f p; x = R.x p }
+  abbrev pub resultAt : Termination → ℕ → ℕ → R.Position → Result
+  resultAt y v g p = record { reason = y; converged = converges y; iterations = R.iterations p; fevals = v; gevals = g; f = R.f p; x = R.x p }
 
   -- ---- the head of a round, after v accepted values
 
@@ -91,14 +91,14 @@ module _ (R : Rounds Job) where
   kept l n v g s = record { limits = l; last = n; values = v; gradients = g; state = s }
 
   abbrev pub put : FitLimits → ℕ → ℕ → ℕ → Ask (Ending R.Position) → Reply × Kept R.Position
-  put l n v g (query k x c) = (ask (questionAt n k x), kept l n v g (open_at k x c))
-  put l n v g (finish (stops y p)) = (ended (fitted (result_at y v g p)), kept l n v g (over (ended (fitted (result_at y v g p)))))
+  put l n v g (query k x c) = (ask (questionAt n k x), kept l n v g (openAt k x c))
+  put l n v g (finish (stops y p)) = (ended (fitted (resultAt y v g p)), kept l n v g (over (ended (fitted (resultAt y v g p)))))
   put l n v g (finish (fails k d)) = (refused k d, kept l n v g (over (refused k d)))
   -- never met: no opening, round or restart is at a head before it has asked
   put l n v g (finish (atHead p)) = (refused 1 0, kept l n v g (over (refused 1 0)))
 
   abbrev pub standing : ℕ → State R.Position → Reply
-  standing n (open_at k x c) = ask (questionAt n k x)
+  standing n (openAt k x c) = ask (questionAt n k x)
   standing n (over y) = y
 
   abbrev pub accept : Kept R.Position → Kind → (List Float → Ask (Ending R.Position)) → Answer → Reply × Kept R.Position
@@ -109,7 +109,7 @@ module _ (R : Rounds Job) where
   -- not a repeat: 15, 16, 17, or accepted
   abbrev pub fresh : Kept R.Position → State R.Position → Answer → Reply × Kept R.Position
   fresh r (over y) a = (refused 15 0, r)
-  fresh r (open_at k x c) a =
+  fresh r (openAt k x c) a =
       cond (not (eqb a.number (suc r.last))) (refused 16 0, r)
       (cond (not (eqb a.kind (letter k) && eqb (length a.words) (wanted k x))) (refused 17 0, r) (accept r k c a))
 

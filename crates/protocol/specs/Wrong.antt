@@ -4,7 +4,7 @@ use Rattle.std.specs.Prelude.{ℕ, suc, Bool, true, false, ◌&&◌, cond, List,
 use Rattle.float.specs.Binary64.{bits}
 use Rattle.protocol.specs.Protocol.{Question, Answer, Result, fitted, searched, differenced, Reply, ask, ended, refused, Engine}
 use Rattle.protocol.specs.Claim.{Limit, limit, unlimited, Claim}
-use Rattle.protocol.specs.Rounds.{Kept, State, open_at, over, kept, standing, fresh, isRepeat, answerTo, engine}
+use Rattle.protocol.specs.Rounds.{Kept, State, openAt, over, kept, standing, fresh, isRepeat, answerTo, engine}
 use Rattle.protocol.specs.Example.{Head, example, one}
 
 -- the example fit's engine with another answer to calls
@@ -56,7 +56,7 @@ stepsOnRepeat =
 -- no repeat, and the fit has ended: its outcome again, a result with one iteration more, in place of 15
 abbrev pub late : Kept Head → State Head → Answer → Reply × Kept Head
 late r (over y) a = (telling another y, r)
-late r (open_at k x c) a = fresh example r (open_at k x c) a
+late r (openAt k x c) a = fresh example r (openAt k x c) a
 
 -- 2. A late answer gets another result than stands.
 abbrev pub tellsAnotherLate : Engine
@@ -114,7 +114,7 @@ pub record AllWrong : Type 1 where
   pub refuses-suiting : Claim refusesSuiting → ⊥
   pub numbers-one : Claim numbersOne → ⊥
   pub tells-elsewhere : Claim tellsElsewhere → ⊥
-  pub tells_first : Claim tellsFirst → ⊥
+  pub tells-first : Claim tellsFirst → ⊥
   pub asks-again : Claim asksAgain → ⊥
   pub ends-larger : Claim endsLarger → ⊥
   pub ends-otherwise : Claim endsOtherwise → ⊥

@@ -12,11 +12,11 @@ use Rattle.linesearch.specs.Step as linesearch
 use Rattle.quasinewton_model.specs.declared.Model.{Model}
 use Rattle.quasinewton_record.specs.declared.Fixed.{Fixed}
 use Rattle.quasinewton_record.specs.declared.Descent.{Descent}
-use Rattle.quasinewton_record.specs.Descents.{searching, byFunction, by_step, bySearch, byGradientFailed, atHead, inPhase, withLine, valuedAt}
-use Rattle.quasinewton_record.specs.Formulas.{stores_of, smallDecreaseOf, smallStepOf}
+use Rattle.quasinewton_record.specs.Descents.{searching, byFunction, byStep, bySearch, byGradientFailed, atHead, inPhase, withLine, valuedAt}
+use Rattle.quasinewton_record.specs.Formulas.{storesOf, smallDecreaseOf, smallStepOf}
 use Rattle.quasinewton_round.specs.Rounds.{headedOf}
-use Rattle.quasinewton.specs.Step.{moved, storedOf, succeededOf, settled_of, storesPairOf, updatedOf, modelAfterOf, arrivedOf, onwardOf}
-use Rattle.quasinewton_record.specs.Outcomes.{lowerOf, missedOf, steppedOf, pairStepOf, pairChangeOf, tested_of}
+use Rattle.quasinewton.specs.Step.{moved, storedOf, succeededOf, settledOf, storesPairOf, updatedOf, modelAfterOf, arrivedOf, onwardOf}
+use Rattle.quasinewton_record.specs.Outcomes.{lowerOf, missedOf, steppedOf, pairStepOf, pairChangeOf, testedOf}
 
 module _ (fixed : Fixed) (fevals : ℕ) where
   -- on through the head, where the record is at one
@@ -52,14 +52,14 @@ module _ (fixed : Fixed) (fevals : ℕ) where
     t = q.search.best
 
     abbrev stores : Bool
-    stores = stores_of (pairStepOf q fixed.n) (pairChangeOf q fixed.n) fixed.n
+    stores = storesOf (pairStepOf q fixed.n) (pairChangeOf q fixed.n) fixed.n
 
     -- the model, by whether the gradient is finite
     abbrev after : Bool → Model
     after finite = cond (cond (not finite) false stores) (updatedOf fixed q m) m
 
-    succeeded-parts : succeededOf fixed q m t fevals ≡ moved (through (tested_of fixed q t) (after (allFiniteOf t.g fixed.n))) (after (allFiniteOf t.g fixed.n))
-    unfolding succeededOf tested_of storedOf updatedOf steppedOf
+    succeeded-parts : succeededOf fixed q m t fevals ≡ moved (through (testedOf fixed q t) (after (allFiniteOf t.g fixed.n))) (after (allFiniteOf t.g fixed.n))
+    unfolding succeededOf testedOf storedOf updatedOf steppedOf
     succeeded-parts = go (allFiniteOf t.g fixed.n) (smallDecreaseOf fixed.options.ftol q.line.f t.trial.value) (smallStepOf fixed.options.xtol q.line.x t.x fixed.n)
       where
         p : Descent
@@ -67,8 +67,8 @@ module _ (fixed : Fixed) (fevals : ℕ) where
 
         go : (finite small short : Bool)
             → cond (not finite) (moved (lowerOf q byGradientFailed t) m)
-            (cond small (moved (inPhase p byFunction) (after true)) (cond short (moved (inPhase p by_step) (after true)) (moved (headedOf fixed p (after true) fevals) (after true))))
-            ≡ moved (through (cond (not finite) (lowerOf q byGradientFailed t) (cond small (inPhase p byFunction) (cond short (inPhase p by_step) p))) (after finite)) (after finite)
+            (cond small (moved (inPhase p byFunction) (after true)) (cond short (moved (inPhase p byStep) (after true)) (moved (headedOf fixed p (after true) fevals) (after true))))
+            ≡ moved (through (cond (not finite) (lowerOf q byGradientFailed t) (cond small (inPhase p byFunction) (cond short (inPhase p byStep) p))) (after finite)) (after finite)
         go false small short = ap (λ (w : Descent). moved w m) (sym (lower-stays q t m byGradientFailed refl))
         go true true short = refl
         go true false true = refl
@@ -78,14 +78,14 @@ module _ (fixed : Fixed) (fevals : ℕ) where
 
   -- what is claimed of a record and a model
   abbrev Parts : Descent → Model → Type 0
-  Parts q m = settled_of fixed q m fevals ≡ moved (onwardOf fixed q (modelAfterOf fixed q m) fevals) (modelAfterOf fixed q m)
+  Parts q m = settledOf fixed q m fevals ≡ moved (onwardOf fixed q (modelAfterOf fixed q m) fevals) (modelAfterOf fixed q m)
 
   from-head : (q : Descent) (m : Model) (p : ℕ) → p ≡ atHead → Parts (inPhase q p) m
-  unfolding settled_of modelAfterOf storesPairOf onwardOf arrivedOf
+  unfolding settledOf modelAfterOf storesPairOf onwardOf arrivedOf
   from-head q m p e = rw e
 
   from-search : (q : Descent) (m : Model) (p : ℕ) → p ≡ searching → Parts (inPhase q p) m
-  unfolding settled_of modelAfterOf storesPairOf onwardOf arrivedOf
+  unfolding settledOf modelAfterOf storesPairOf onwardOf arrivedOf
   from-search q m p e = rw e (go (eqb q.search.phase linesearch.found) (eqb q.search.phase linesearch.failed))
     where
       now : Descent
@@ -95,7 +95,7 @@ module _ (fixed : Fixed) (fevals : ℕ) where
       finite = allFiniteOf q.search.best.g fixed.n
 
       arrived : Bool → Bool → Descent
-      arrived met missed = cond met (tested_of fixed now q.search.best) (cond missed (missedOf now q.search.best) now)
+      arrived met missed = cond met (testedOf fixed now q.search.best) (cond missed (missedOf now q.search.best) now)
 
       kept : Bool → Model
       kept met = cond (cond (not met) false (cond (not finite) false (stores now m))) (updatedOf fixed now m) m
@@ -108,10 +108,10 @@ module _ (fixed : Fixed) (fevals : ℕ) where
       go false false = refl
 
   elsewhere : (q : Descent) (m : Model) → eqb q.phase atHead ≡ false → eqb q.phase searching ≡ false → Parts q m
-  unfolding settled_of modelAfterOf storesPairOf onwardOf arrivedOf
+  unfolding settledOf modelAfterOf storesPairOf onwardOf arrivedOf
   elsewhere q m e f = rw (f, e)
 
-pub settled-parts : (fixed : Fixed) (q : Descent) (m : Model) (fevals : ℕ) → settled_of fixed q m fevals ≡ moved (onwardOf fixed q (modelAfterOf fixed q m) fevals) (modelAfterOf fixed q m)
+pub settled-parts : (fixed : Fixed) (q : Descent) (m : Model) (fevals : ℕ) → settledOf fixed q m fevals ≡ moved (onwardOf fixed q (modelAfterOf fixed q m) fevals) (modelAfterOf fixed q m)
 settled-parts fixed q m fevals = go (eqb q.phase atHead) refl (eqb q.phase searching) refl
   where
     go : (b : Bool) → eqb q.phase atHead ≡ b → (c : Bool) → eqb q.phase searching ≡ c → Parts fixed fevals q m

@@ -9,14 +9,14 @@ use Rattle.quasinewton_model.specs.declared.Model.{Model}
 use Rattle.quasinewton_model.specs.Step.{updateOf}
 use Rattle.quasinewton_record.specs.declared.Fixed.{Fixed}
 use Rattle.quasinewton_record.specs.declared.Descent.{Descent}
-unfoldable pub use Rattle.quasinewton_record.specs.Formulas.{stores_of, smallDecreaseOf, smallStepOf, initialStepOf, notDescendingOf}
-pub use Rattle.quasinewton_record.specs.Descents.{firstValue, firstGradient, firstDifferences, searching, byGradient, byFunction, by_step, byIterations, byFevals, bySearch, byGradientFailed, byRefusal, atHead, inPhase, refusedBy, withLine, withSearch, withDiff, valuedAt, searchFixed, zeros}
-unfoldable pub use Rattle.quasinewton_record.specs.Descents.{asksOf, gradientDueOf, idleOf, start_of}
+unfoldable pub use Rattle.quasinewton_record.specs.Formulas.{storesOf, smallDecreaseOf, smallStepOf, initialStepOf, notDescendingOf}
+pub use Rattle.quasinewton_record.specs.Descents.{firstValue, firstGradient, firstDifferences, searching, byGradient, byFunction, byStep, byIterations, byFevals, bySearch, byGradientFailed, byRefusal, atHead, inPhase, refusedBy, withLine, withSearch, withDiff, valuedAt, searchFixed, zeros}
+unfoldable pub use Rattle.quasinewton_record.specs.Descents.{asksOf, gradientDueOf, idleOf, startOf}
 unfoldable pub use Rattle.quasinewton_round.specs.Opening.{gradedOf, differingOf, valuedOf}
 pub use Rattle.quasinewton_round.specs.Rounds.{iterated}
 unfoldable pub use Rattle.quasinewton_round.specs.Rounds.{soughtOf, searchedOf, steepestOf, directedOf, headedOf}
 pub use Rattle.quasinewton_record.specs.Outcomes.{pairStepOf, pairChangeOf}
-unfoldable pub use Rattle.quasinewton_record.specs.Outcomes.{lowerOf, missedOf, steppedOf, tested_of}
+unfoldable pub use Rattle.quasinewton_record.specs.Outcomes.{lowerOf, missedOf, steppedOf, testedOf}
 unfoldable pub use Rattle.quasinewton_answer.specs.Questions.{probeOf, toldOf, toldGradientOf}
 
 -- ---- after a search: the record and the model, where both have moved
@@ -34,7 +34,7 @@ storedOf fixed q m t =
     let n = fixed.n in
     let s = differenceOf t.x q.line.x n in
     let y = differenceOf t.g q.line.g n in
-    cond (stores_of s y n) (updateOf m s y n) m
+    cond (storesOf s y n) (updateOf m s y n) m
 
 unfoldable pub succeededOf : Fixed → Descent → Model → Evaluation → ℕ → Moved
 succeededOf fixed q m t fevals =
@@ -43,12 +43,12 @@ succeededOf fixed q m t fevals =
     let h = storedOf fixed q m t in
     cond (not (allFiniteOf t.g fixed.n)) (moved (lowerOf q byGradientFailed t) m)
     (cond (smallDecreaseOf o.ftol q.line.f t.trial.value) (moved (inPhase p byFunction) h)
-    (cond (smallStepOf o.xtol q.line.x t.x fixed.n) (moved (inPhase p by_step) h)
+    (cond (smallStepOf o.xtol q.line.x t.x fixed.n) (moved (inPhase p byStep) h)
     (moved (headedOf fixed p h fevals) h)))
 
 -- from the head of a round, or from a search that has ended, to the next question or the end
-unfoldable pub settled_of : Fixed → Descent → Model → ℕ → Moved
-settled_of fixed q m fevals =
+unfoldable pub settledOf : Fixed → Descent → Model → ℕ → Moved
+settledOf fixed q m fevals =
     cond (eqb q.phase atHead) (moved (headedOf fixed q m fevals) m)
     (cond (not (eqb q.phase searching)) (moved q m)
     (cond (eqb q.search.phase linesearch.found) (succeededOf fixed q m q.search.best fevals)
@@ -62,7 +62,7 @@ storesPairOf fixed q =
     let n = fixed.n in
     cond (not (eqb q.phase searching)) false
     (cond (not (eqb q.search.phase linesearch.found)) false
-    (cond (not (allFiniteOf q.search.best.g n)) false (stores_of (pairStepOf q n) (pairChangeOf q n) n)))
+    (cond (not (allFiniteOf q.search.best.g n)) false (storesOf (pairStepOf q n) (pairChangeOf q n) n)))
 
 -- the model with that pair taken in
 unfoldable pub updatedOf : Fixed → Descent → Model → Model
@@ -76,7 +76,7 @@ modelAfterOf fixed q m = cond (storesPairOf fixed q) (updatedOf fixed q m) m
 unfoldable pub arrivedOf : Fixed → Descent → Descent
 arrivedOf fixed q =
     cond (not (eqb q.phase searching)) q
-    (cond (eqb q.search.phase linesearch.found) (tested_of fixed q q.search.best)
+    (cond (eqb q.search.phase linesearch.found) (testedOf fixed q q.search.best)
     (cond (eqb q.search.phase linesearch.failed) (missedOf q q.search.best) q))
 
 -- from there through the head of a round; m is the model after the search

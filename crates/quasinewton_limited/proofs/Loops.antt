@@ -9,20 +9,20 @@ use borrow.Author.Tests.{eqb-true, eqb-false}
 use Rattle.quasinewton_limited.specs.declared.Pair.{Pair}
 use Rattle.quasinewton_limited.specs.declared.Limited.{Limited}
 use Rattle.quasinewton_limited.specs.declared.Sweep.{Sweep}
-use Rattle.quasinewton_limited.specs.Step.{pair_at, downOf, downFrom, shiftedOf, poppedOf, roomOf}
+use Rattle.quasinewton_limited.specs.Step.{pairAt, downOf, downFrom, shiftedOf, poppedOf, roomOf}
 
 -- ---- what is left to do with i pairs to go stays the same
-pub down-goes : (pairs : List Pair) (n i : ℕ) (w : Sweep) → 0 < i → downFrom pairs n (i - 1) (downOf (pair_at pairs (i - 1)) w (i - 1) n) ≡ downFrom pairs n i w
+pub down-goes : (pairs : List Pair) (n i : ℕ) (w : Sweep) → 0 < i → downFrom pairs n (i - 1) (downOf (pairAt pairs (i - 1)) w (i - 1) n) ≡ downFrom pairs n i w
 unfolding downFrom
 down-goes pairs n zero w h = absurd (omega arith)
 down-goes pairs n (suc i) w h =
     let e : suc i - 1 ≡ i = omega arith in
     rw e
 
-pub down_ends : (pairs : List Pair) (n i : ℕ) (w : Sweep) → i ≤ 0 → w ≡ downFrom pairs n i w
+pub down-ends : (pairs : List Pair) (n i : ℕ) (w : Sweep) → i ≤ 0 → w ≡ downFrom pairs n i w
 unfolding downFrom
-down_ends pairs n zero w h = refl
-down_ends pairs n (suc i) w h = absurd (omega arith)
+down-ends pairs n zero w h = refl
+down-ends pairs n (suc i) w h = absurd (omega arith)
 
 -- ---- one place is free after `room`, of a memory of 0 too
 pub room-free : (l : Limited) (memory : ℕ) → l.count ≤ memory → memory ≤ 16 → (roomOf l memory).count < 16

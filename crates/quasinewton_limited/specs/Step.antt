@@ -15,8 +15,8 @@ abbrev pub noPair : Pair
 noPair = record { s = []; y = []; rho = nan }
 
 -- pairs[i], as the code's index reads it
-abbrev pub pair_at : List Pair → ℕ → Pair
-pair_at pairs i = get_or pairs i noPair
+abbrev pub pairAt : List Pair → ℕ → Pair
+pairAt pairs i = get_or pairs i noPair
 
 unfoldable pub downOf : Pair → Sweep → ℕ → ℕ → Sweep
 downOf p w i n =
@@ -26,7 +26,7 @@ downOf p w i n =
 -- past the first k pairs, from the newest of them
 unfoldable pub downFrom : List Pair → ℕ → ℕ → Sweep → Sweep
 downFrom pairs n zero w = w
-downFrom pairs n (suc k) w = downFrom pairs n k (downOf (pair_at pairs k) w k n)
+downFrom pairs n (suc k) w = downFrom pairs n k (downOf (pairAt pairs k) w k n)
 
 unfoldable pub allDownOf : Limited → List Float → ℕ → Sweep
 allDownOf l g n = downFrom l.pairs n l.count (record { q = g; alphas = replicate 16 plusZero })
@@ -36,7 +36,7 @@ upOf p q alpha n = plusScaledOf q (alpha ⊖ p.rho ⊗ dotOf p.y q n) p.s n
 
 -- past the first k pairs, from the oldest
 unfoldable pub allUpOf : List Pair → List Float → List Float → ℕ → ℕ → List Float
-allUpOf pairs r alphas n = fold (λ q i. upOf (pair_at pairs i) q (at alphas i) n) r
+allUpOf pairs r alphas n = fold (λ q i. upOf (pairAt pairs i) q (at alphas i) n) r
 
 unfoldable pub limitedDirectionOf : Limited → List Float → ℕ → List Float
 limitedDirectionOf l g n =
@@ -44,7 +44,7 @@ limitedDirectionOf l g n =
     negationOf (allUpOf l.pairs (scaledOf w.q l.gamma n) w.alphas n l.count) n
 
 unfoldable pub shiftedOf : List Pair → ℕ → List Pair
-shiftedOf pairs = fold (λ w i. set w i (pair_at pairs (i + 1))) pairs
+shiftedOf pairs = fold (λ w i. set w i (pairAt pairs (i + 1))) pairs
 
 unfoldable pub poppedOf : Limited → Limited
 poppedOf l = cond (eqb l.count 0) l (record { count = l.count - 1; gamma = l.gamma; pairs = shiftedOf l.pairs (l.count - 1) })

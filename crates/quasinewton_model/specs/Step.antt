@@ -3,7 +3,7 @@ use Rattle.std.specs.Prelude.{ℕ, ◌≤◌, ◌≡◌, Bool, true, false, cond
 use Rattle.float.specs.Binary64.{plusZero}
 pub use Rattle.quasinewton_dense.specs.Step.{one, change}
 unfoldable pub use Rattle.quasinewton_dense.specs.Step.{diagonalOf, updateRowOf, updateRowsOf, preparedOf, denseUpdateOf, denseDirectionOf}
-pub use Rattle.quasinewton_limited.specs.Step.{noPair, pair_at, blankPair}
+pub use Rattle.quasinewton_limited.specs.Step.{noPair, pairAt, blankPair}
 unfoldable pub use Rattle.quasinewton_limited.specs.Step.{downOf, downFrom, allDownOf, upOf, allUpOf, limitedDirectionOf, shiftedOf, poppedOf, roomOf, gammaOf, limitedUpdateOf, noPairsOf}
 use Rattle.quasinewton_model.specs.declared.Model.{Model}
 

@@ -21,20 +21,20 @@ module _ {A : Type 0} (d : A) (f : A → ℕ → A) (p : ℕ → ℕ) (h : List 
   stored-length (suc m) = length-set (stored d f p h m) (p m) (f (get_or (stored d f p h m) (p m) d) m) ∙ stored-length m
 
   -- a place that no turn made stays
-  pub stored_other : (m k : ℕ) → ((j : ℕ) → j < m → k ≡ p j → ⊥) → get_or (stored d f p h m) k d ≡ get_or h k d
-  stored_other zero k free = refl
-  stored_other (suc m) k free =
+  pub stored-other : (m k : ℕ) → ((j : ℕ) → j < m → k ≡ p j → ⊥) → get_or (stored d f p h m) k d ≡ get_or h k d
+  stored-other zero k free = refl
+  stored-other (suc m) k free =
       get_or-set_other (stored d f p h m) (p m) k (f (get_or (stored d f p h m) (p m) d) m) d (free m (le_refl (suc m)))
-      ∙ stored_other m k (λ j l. free j (le_trans l (le-suc m)))
+      ∙ stored-other m k (λ j l. free j (le_trans l (le-suc m)))
 
-  pub stored_at : ((i j : ℕ) → p i ≡ p j → i ≡ j) → (m j : ℕ) → j < m → ((i : ℕ) → i < m → p i < length h) → get_or (stored d f p h m) (p j) d ≡ f (get_or h (p j) d) j
-  stored_at one zero j l room = absurd (not-suc-le-zero l)
-  stored_at one (suc m) j l room = elim (eq-or-lt_of_le (le_of_suc-le-suc l)) [
+  pub stored-at : ((i j : ℕ) → p i ≡ p j → i ≡ j) → (m j : ℕ) → j < m → ((i : ℕ) → i < m → p i < length h) → get_or (stored d f p h m) (p j) d ≡ f (get_or h (p j) d) j
+  stored-at one zero j l room = absurd (not-suc-le-zero l)
+  stored-at one (suc m) j l room = elim (eq-or-lt_of_le (le_of_suc-le-suc l)) [
     | inl e ↦ rw e
         (get_or-set_same (stored d f p h m) (p m) (f (get_or (stored d f p h m) (p m) d) m) d (rw (stored-length m) (room m (le_refl (suc m))))
-        ∙ ap (λ x. f x m) (stored_other m (p m) (λ i k q. omega (arith, one m i q))))
+        ∙ ap (λ x. f x m) (stored-other m (p m) (λ i k q. omega (arith, one m i q))))
     | inr k ↦ get_or-set_other (stored d f p h m) (p m) (p j) (f (get_or (stored d f p h m) (p m) d) m) d (λ q. omega (arith, one j m q))
-        ∙ stored_at one m j k (λ i t. room i (le_trans t (le-suc m)))
+        ∙ stored-at one m j k (λ i t. room i (le_trans t (le-suc m)))
   ]
 
 -- ---- lists made place by place

@@ -20,34 +20,34 @@ use Rattle.quasinewton_limited.specs.declared.Pair.{Pair}
 use Rattle.quasinewton_limited.specs.declared.Limited.{Limited}
 use Rattle.quasinewton_model.specs.declared.Model.{Model}
 use Rattle.quasinewton_model_theory.specs.Algorithm.{dense, limited, one, newHessian, direction, update}
-use Rattle.quasinewton_model.specs.Step.{noPair, pair_at, blankPair, diagonalOf, preparedOf, denseUpdateOf, denseDirectionOf, limitedDirectionOf, roomOf, limitedUpdateOf, noPairsOf, blankOf, newModelOf, directionOf, updateOf}
+use Rattle.quasinewton_model.specs.Step.{noPair, pairAt, blankPair, diagonalOf, preparedOf, denseUpdateOf, denseDirectionOf, limitedDirectionOf, roomOf, limitedUpdateOf, noPairsOf, blankOf, newModelOf, directionOf, updateOf}
 use Rattle.quasinewton_model_theory.specs.Ties.{readDense, readLimited, readModel, ModelSized, ModelZeroPast, HessianTies}
-use Rattle.quasinewton_model_theory.proofs.TiesDense.{diagonal-length, diagonal-off, rows-length, rows_other, prepared-length, new-dense, dense-update, dense-direction}
+use Rattle.quasinewton_model_theory.proofs.TiesDense.{diagonal-length, diagonal-off, rows-length, rows-other, prepared-length, new-dense, dense-update, dense-direction}
 use Rattle.quasinewton_model_theory.proofs.TiesLimited.{Room, room, limited-update, limited-direction, new-limited}
 
 -- ---- blank pairs
 
-blank-at : (i : ℕ) → i < 16 → pair_at (replicate 16 blankPair) i ≡ blankPair
+blank-at : (i : ℕ) → i < 16 → pairAt (replicate 16 blankPair) i ≡ blankPair
 blank-at i h = get_or-replicate 16 i blankPair noPair h
 
-blank-s : (i : ℕ) → i < 16 → length (pair_at (replicate 16 blankPair) i).s ≡ 16
+blank-s : (i : ℕ) → i < 16 → length (pairAt (replicate 16 blankPair) i).s ≡ 16
 blank-s i h = ap (λ (p : Pair). length p.s) (blank-at i h)
 
-blank-y : (i : ℕ) → i < 16 → length (pair_at (replicate 16 blankPair) i).y ≡ 16
+blank-y : (i : ℕ) → i < 16 → length (pairAt (replicate 16 blankPair) i).y ≡ 16
 blank-y i h = ap (λ (p : Pair). length p.y) (blank-at i h)
 
-zeros-s : (n i : ℕ) → i < 16 → ZeroFrom n (pair_at (replicate 16 blankPair) i).s
+zeros-s : (n i : ℕ) → i < 16 → ZeroFrom n (pairAt (replicate 16 blankPair) i).s
 zeros-s n i h k l j = ap (λ (p : Pair). at p.s k) (blank-at i h) ∙ get_or-replicate 16 k plusZero nan j
 
-zeros-y : (n i : ℕ) → i < 16 → ZeroFrom n (pair_at (replicate 16 blankPair) i).y
+zeros-y : (n i : ℕ) → i < 16 → ZeroFrom n (pairAt (replicate 16 blankPair) i).y
 zeros-y n i h k l j = ap (λ (p : Pair). at p.y k) (blank-at i h) ∙ get_or-replicate 16 k plusZero nan j
 
 -- ---- what holds of the new pair and of those that stood holds of those that stand
-each-pair : (P : Pair → Type 0) (memory : ℕ) (l r : Limited) (p : Pair) → Room memory l r → P p → ((j : ℕ) → j < 16 → P (pair_at l.pairs j)) → (i : ℕ) → i < 16 → P (pair_at (set r.pairs r.count p) i)
+each-pair : (P : Pair → Type 0) (memory : ℕ) (l r : Limited) (p : Pair) → Room memory l r → P p → ((j : ℕ) → j < 16 → P (pairAt l.pairs j)) → (i : ℕ) → i < 16 → P (pairAt (set r.pairs r.count p) i)
 each-pair P memory l r p o new old i h = go (eqb i r.count) refl
   where
-    go : (b : Bool) → eqb i r.count ≡ b → P (pair_at (set r.pairs r.count p) i)
-    go true e = subst P (sym (ap (pair_at (set r.pairs r.count p)) (eqb-true i r.count e) ∙ get_or-set_same r.pairs r.count p noPair (omega (arith, o.fewer, o.long)))) new
+    go : (b : Bool) → eqb i r.count ≡ b → P (pairAt (set r.pairs r.count p) i)
+    go true e = subst P (sym (ap (pairAt (set r.pairs r.count p)) (eqb-true i r.count e) ∙ get_or-set_same r.pairs r.count p noPair (omega (arith, o.fewer, o.long)))) new
     go false e =
         let f = o.each i h in
         subst P (sym (get_or-set_other r.pairs r.count i p noPair (eqb-false i r.count e) ∙ f.2)) (old f.0 f.1)
@@ -187,7 +187,7 @@ module _ (n : ℕ) (small : n ≤ 16) where
             let h = preparedOf m.dense (dotOf s y n) y n in
             record {
               rows = λ i j a b past.
-                  rows_other s (matVecOf h y n n) (one ⊘ dotOf s y n) _ n small h n (i * 16 + j) (λ k l u v w. ⊎_elim (λ t. omega arith) (λ t. omega arith) past)
+                  rows-other s (matVecOf h y n n) (one ⊘ dotOf s y n) _ n small h n (i * 16 + j) (λ k l u v w. ⊎_elim (λ t. omega arith) (λ t. omega arith) past)
                   ∙ prepared-zeros o i j a b past;
               zero-s = o.zero-s;
               zero-y = o.zero-y;

@@ -13,13 +13,13 @@ use borrow.Author.Tests.{eqb-true, eqb-false}
 use Rattle.float.specs.Binary64.{◌⊕◌, ◌⊗◌, ◌⊘◌, plusZero}
 use Rattle.vector.specs.Loops.{at}
 use Rattle.vector.specs.Points.{dotOf, matVecOf}
-use Rattle.vector.specs.Lists.{first, row_of, rows_of, negation}
+use Rattle.vector.specs.Lists.{first, rowOf, rowsOf, negation}
 use Rattle.vector.proofs.First.{upto-same, point-laws, ties}
 use Rattle.quasinewton_dense.specs.declared.Dense.{Dense}
 use Rattle.quasinewton_model_theory.specs.Algorithm.{one, entry, diagonal, newDense, denseDirection, prepared, rankTwo, denseUpdate}
 use Rattle.quasinewton_model.specs.Step.{diagonalOf, change, updateRowOf, updateRowsOf, preparedOf, denseUpdateOf, denseDirectionOf}
 use Rattle.quasinewton_model_theory.specs.Ties.{readDense}
-use Rattle.quasinewton_model_theory.proofs.Places.{stored-length, stored_other, stored_at, at-upto}
+use Rattle.quasinewton_model_theory.proofs.Places.{stored-length, stored-other, stored-at, at-upto}
 
 -- ---- the diagonal
 
@@ -31,7 +31,7 @@ diagonal-length c n = stored-length nan (λ x i. c) (λ i. i * 16 + i) (replicat
 pub diagonal-off : (c : Float) (n i j : ℕ) → i < 16 → j < 16 → ((k : ℕ) → k < n → i ≡ k → j ≡ k → ⊥) → n ≤ 16 → at (diagonalOf c n) (i * 16 + j) ≡ plusZero
 unfolding diagonalOf
 diagonal-off c n i j a b off small =
-    stored_other nan (λ x k. c) (λ k. k * 16 + k) (replicate 256 plusZero) n (i * 16 + j)
+    stored-other nan (λ x k. c) (λ k. k * 16 + k) (replicate 256 plusZero) n (i * 16 + j)
     (λ k l e.
     let same : i ≡ k = omega arith in
     off k l same (omega arith))
@@ -40,7 +40,7 @@ diagonal-off c n i j a b off small =
 diagonal-on : (c : Float) (n i : ℕ) → i < n → n ≤ 16 → at (diagonalOf c n) (i * 16 + i) ≡ c
 unfolding diagonalOf
 diagonal-on c n i l small =
-    stored_at nan (λ x k. c) (λ k. k * 16 + k) (replicate 256 plusZero) (λ a b e. omega arith) n i l (λ k t. omega arith)
+    stored-at nan (λ x k. c) (λ k. k * 16 + k) (replicate 256 plusZero) (λ a b e. omega arith) n i l (λ k t. omega arith)
 
 diagonal-at : (c : Float) (n i j : ℕ) → i < n → j < n → n ≤ 16 → at (diagonalOf c n) (i * 16 + j) ≡ cond (eqb i j) c plusZero
 diagonal-at c n i j a b small = go (eqb i j) refl
@@ -51,8 +51,8 @@ diagonal-at c n i j a b small = go (eqb i j) refl
         rw same (diagonal-on c n i a small)
     go false e = diagonal-off c n i j (omega arith) (omega arith) (λ k l p q. eqb-false i j e (p ∙ sym q)) small
 
-pub read-diagonal : (c : Float) (n : ℕ) → n ≤ 16 → rows_of n (diagonalOf c n) ≡ diagonal c n
-unfolding rows_of row_of diagonal
+pub read-diagonal : (c : Float) (n : ℕ) → n ≤ 16 → rowsOf n (diagonalOf c n) ≡ diagonal c n
+unfolding rowsOf rowOf diagonal
 read-diagonal c n small = upto-same _ _ n (λ i a. upto-same _ _ n (λ j b. diagonal-at c n i j a b small))
 
 -- ---- the rank-two update
@@ -61,49 +61,49 @@ module _ (s hy : List Float) (rho coef : Float) (n : ℕ) (small : n ≤ 16) whe
   unfolding updateRowOf
   row-length h i = stored-length nan (λ x j. x ⊕ change s hy rho coef i j) (λ j. i * 16 + j) h n
 
-  row_other : (h : List Float) (i k : ℕ) → ((j : ℕ) → j < n → k ≡ i * 16 + j → ⊥) → at (updateRowOf h i s hy rho coef n) k ≡ at h k
+  row-other : (h : List Float) (i k : ℕ) → ((j : ℕ) → j < n → k ≡ i * 16 + j → ⊥) → at (updateRowOf h i s hy rho coef n) k ≡ at h k
   unfolding updateRowOf
-  row_other h i k free = stored_other nan (λ x j. x ⊕ change s hy rho coef i j) (λ j. i * 16 + j) h n k free
+  row-other h i k free = stored-other nan (λ x j. x ⊕ change s hy rho coef i j) (λ j. i * 16 + j) h n k free
 
-  row_at : (h : List Float) (i j : ℕ) → length h ≡ 256 → i < 16 → j < n → at (updateRowOf h i s hy rho coef n) (i * 16 + j) ≡ at h (i * 16 + j) ⊕ change s hy rho coef i j
+  row-at : (h : List Float) (i j : ℕ) → length h ≡ 256 → i < 16 → j < n → at (updateRowOf h i s hy rho coef n) (i * 16 + j) ≡ at h (i * 16 + j) ⊕ change s hy rho coef i j
   unfolding updateRowOf
-  row_at h i j long a b = stored_at nan (λ x j. x ⊕ change s hy rho coef i j) (λ j. i * 16 + j) h (λ a b e. omega arith) n j b (λ k t. omega arith)
+  row-at h i j long a b = stored-at nan (λ x j. x ⊕ change s hy rho coef i j) (λ j. i * 16 + j) h (λ a b e. omega arith) n j b (λ k t. omega arith)
 
   pub rows-length : (h : List Float) (m : ℕ) → length (updateRowsOf h s hy rho coef n m) ≡ length h
   unfolding updateRowsOf
   rows-length h zero = refl
   rows-length h (suc m) = row-length (updateRowsOf h s hy rho coef n m) m ∙ rows-length h m
 
-  pub rows_other : (h : List Float) (m k : ℕ) → ((i j : ℕ) → i < m → j < n → k ≡ i * 16 + j → ⊥) → at (updateRowsOf h s hy rho coef n m) k ≡ at h k
+  pub rows-other : (h : List Float) (m k : ℕ) → ((i j : ℕ) → i < m → j < n → k ≡ i * 16 + j → ⊥) → at (updateRowsOf h s hy rho coef n m) k ≡ at h k
   unfolding updateRowsOf
-  rows_other h zero k free = refl
-  rows_other h (suc m) k free =
-      row_other (updateRowsOf h s hy rho coef n m) m k (λ j b e. free m j (le_refl (suc m)) b e)
-      ∙ rows_other h m k (λ i j a b e. free i j (le_trans a (le-suc m)) b e)
+  rows-other h zero k free = refl
+  rows-other h (suc m) k free =
+      row-other (updateRowsOf h s hy rho coef n m) m k (λ j b e. free m j (le_refl (suc m)) b e)
+      ∙ rows-other h m k (λ i j a b e. free i j (le_trans a (le-suc m)) b e)
 
-  rows_at : (h : List Float) (m i j : ℕ) → length h ≡ 256 → i < m → m ≤ 16 → j < n → at (updateRowsOf h s hy rho coef n m) (i * 16 + j) ≡ at h (i * 16 + j) ⊕ change s hy rho coef i j
+  rows-at : (h : List Float) (m i j : ℕ) → length h ≡ 256 → i < m → m ≤ 16 → j < n → at (updateRowsOf h s hy rho coef n m) (i * 16 + j) ≡ at h (i * 16 + j) ⊕ change s hy rho coef i j
   unfolding updateRowsOf
-  rows_at h zero i j long a few b = absurd (not-suc-le-zero a)
-  rows_at h (suc m) i j long a few b = elim (eq-or-lt_of_le (le_of_suc-le-suc a)) [
+  rows-at h zero i j long a few b = absurd (not-suc-le-zero a)
+  rows-at h (suc m) i j long a few b = elim (eq-or-lt_of_le (le_of_suc-le-suc a)) [
     | inl e ↦ rw e
-        (row_at (updateRowsOf h s hy rho coef n m) m j (rows-length h m ∙ long) (omega arith) b
-        ∙ ap (λ x. x ⊕ change s hy rho coef m j) (rows_other h m (m * 16 + j) (λ p q t u w. omega arith)))
-    | inr l ↦ row_other (updateRowsOf h s hy rho coef n m) m (i * 16 + j) (λ q u w. omega arith)
-        ∙ rows_at h m i j long l (omega arith) b
+        (row-at (updateRowsOf h s hy rho coef n m) m j (rows-length h m ∙ long) (omega arith) b
+        ∙ ap (λ x. x ⊕ change s hy rho coef m j) (rows-other h m (m * 16 + j) (λ p q t u w. omega arith)))
+    | inr l ↦ row-other (updateRowsOf h s hy rho coef n m) m (i * 16 + j) (λ q u w. omega arith)
+        ∙ rows-at h m i j long l (omega arith) b
   ]
 
-  entry_of : (h : List Float) (i j : ℕ) → i < n → j < n → entry (rows_of n h) i j ≡ at h (i * 16 + j)
-  unfolding rows_of row_of
-  entry_of h i j a b = ap (λ (r : List Float). at r j) (at-upto (row_of n h) [] n i a) ∙ at-upto (λ k. at h (i * 16 + k)) nan n j b
+  entry-of : (h : List Float) (i j : ℕ) → i < n → j < n → entry (rowsOf n h) i j ≡ at h (i * 16 + j)
+  unfolding rowsOf rowOf
+  entry-of h i j a b = ap (λ (r : List Float). at r j) (at-upto (rowOf n h) [] n i a) ∙ at-upto (λ k. at h (i * 16 + k)) nan n j b
 
   added : (h : List Float) (i j : ℕ) → length h ≡ 256 → i < n → j < n → at (updateRowsOf h s hy rho coef n n) (i * 16 + j)
-      ≡ entry (rows_of n h) i j ⊕ (neg rho ⊗ (at (first n s) i ⊗ at (first n hy) j ⊕ at (first n hy) i ⊗ at (first n s) j) ⊕ coef ⊗ at (first n s) i ⊗ at (first n s) j)
+      ≡ entry (rowsOf n h) i j ⊕ (neg rho ⊗ (at (first n s) i ⊗ at (first n hy) j ⊕ at (first n hy) i ⊗ at (first n s) j) ⊕ coef ⊗ at (first n s) i ⊗ at (first n s) j)
   added h i j long a b =
-      rw (entry_of h i j a b, point-laws.read n s i a, point-laws.read n s j b, point-laws.read n hy i a, point-laws.read n hy j b)
-      (rows_at h n i j long a small b)
+      rw (entry-of h i j a b, point-laws.read n s i a, point-laws.read n s j b, point-laws.read n hy i a, point-laws.read n hy j b)
+      (rows-at h n i j long a small b)
 
-  read-rows : (h : List Float) → length h ≡ 256 → rows_of n (updateRowsOf h s hy rho coef n n) ≡ rankTwo (rows_of n h) (first n s) (first n hy) rho coef
-  unfolding rankTwo rows_of row_of
+  read-rows : (h : List Float) → length h ≡ 256 → rowsOf n (updateRowsOf h s hy rho coef n n) ≡ rankTwo (rowsOf n h) (first n s) (first n hy) rho coef
+  unfolding rankTwo rowsOf rowOf
   read-rows h long = rw (point-laws.listed n s) (upto-same _ _ n (λ i a. upto-same _ _ n (λ j b. added h i j long a b)))
 
 -- ---- the whole
@@ -118,11 +118,11 @@ module _ (n : ℕ) (small : n ≤ 16) where
       go true true false = long
       go true true true = diagonal-length (sy ⊘ dotOf y y n) n
 
-  read-prepared : (d : Dense) (sy : Float) (y : List Float) → rows_of n (preparedOf d sy y n) ≡ prepared (readDense n d) sy (dotOf y y n) n
+  read-prepared : (d : Dense) (sy : Float) (y : List Float) → rowsOf n (preparedOf d sy y n) ≡ prepared (readDense n d) sy (dotOf y y n) n
   unfolding preparedOf prepared
   read-prepared d sy y = go d.fresh (lt plusZero (dotOf y y n)) (lt plusZero sy)
     where
-      go : (a b c : Bool) → rows_of n (cond (not a) d.h (cond b (cond c (diagonalOf (sy ⊘ dotOf y y n) n) d.h) d.h)) ≡ cond (a && b && c) (diagonal (sy ⊘ dotOf y y n) n) (rows_of n d.h)
+      go : (a b c : Bool) → rowsOf n (cond (not a) d.h (cond b (cond c (diagonalOf (sy ⊘ dotOf y y n) n) d.h) d.h)) ≡ cond (a && b && c) (diagonal (sy ⊘ dotOf y y n) n) (rowsOf n d.h)
       go false b c = refl
       go true false c = refl
       go true true false = refl

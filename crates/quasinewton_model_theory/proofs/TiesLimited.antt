@@ -20,9 +20,9 @@ use Rattle.quasinewton_limited.specs.declared.Pair.{Pair}
 use Rattle.quasinewton_limited.specs.declared.Limited.{Limited}
 use Rattle.quasinewton_limited.specs.declared.Sweep.{Sweep}
 use Rattle.quasinewton_model_theory.specs.Algorithm.{one, newMemory, fall, rise, rises, limitedDirection, limitedUpdate}
-use Rattle.quasinewton_model.specs.Step.{noPair, pair_at, downOf, downFrom, allDownOf, upOf, allUpOf, limitedDirectionOf, shiftedOf, poppedOf, roomOf, gammaOf, limitedUpdateOf, noPairsOf}
+use Rattle.quasinewton_model.specs.Step.{noPair, pairAt, downOf, downFrom, allDownOf, upOf, allUpOf, limitedDirectionOf, shiftedOf, poppedOf, roomOf, gammaOf, limitedUpdateOf, noPairsOf}
 use Rattle.quasinewton_model_theory.specs.Ties.{readPair, readPairs, readLimited}
-use Rattle.quasinewton_model_theory.proofs.Places.{stored-length, stored_other, stored_at, upto-drop, upto-push}
+use Rattle.quasinewton_model_theory.proofs.Places.{stored-length, stored-other, stored-at, upto-drop, upto-push}
 
 -- ---- lists
 reverse-more : {A : Type 0} (xs : List A) (x : A) (r : List A) → reverse_aux (xs ++ (x ∷ [])) r ≡ x ∷ reverse_aux xs r
@@ -43,8 +43,8 @@ module _ (pairs : List Pair) (n : ℕ) where
   unfolding downFrom downOf
   alphas-stay zero w j h = refl
   alphas-stay (suc k) w j h =
-      alphas-stay k (downOf (pair_at pairs k) w k n) j (omega arith)
-      ∙ get_or-set_other w.alphas k j ((pair_at pairs k).rho ⊗ dotOf (pair_at pairs k).s w.q n) nan (λ e. omega arith)
+      alphas-stay k (downOf (pairAt pairs k) w k n) j (omega arith)
+      ∙ get_or-set_other w.alphas k j ((pairAt pairs k).rho ⊗ dotOf (pairAt pairs k).s w.q n) nan (λ e. omega arith)
 
   length-of : (p : Pair) (w : Sweep) (k : ℕ) → length (downOf p w k n).alphas ≡ length w.alphas
   unfolding downOf
@@ -65,7 +65,7 @@ module _ (pairs : List Pair) (n : ℕ) where
   unfolding downFrom
   falls zero w as' h = refl
   falls (suc k) w as' h =
-      let p = pair_at pairs k in
+      let p = pairAt pairs k in
       let a = p.rho ⊗ dotOf p.s w.q n in
       let v = downOf p w k n in
       let last : at (downFrom pairs n k v).alphas k ≡ a = alphas-stay k v k (omega arith) ∙ stored-alpha p w k (omega arith) in
@@ -76,9 +76,9 @@ module _ (pairs : List Pair) (n : ℕ) where
       (ap (λ (x : Float). upto (at (downFrom pairs n k v).alphas) k ++ (x ∷ as')) (sym last)
       ∙ sym (append_assoc (upto (at (downFrom pairs n k v).alphas) k) (at (downFrom pairs n k v).alphas k ∷ []) as'))
 
-  up_of : (p : Pair) (q : List Float) (a : Float) → first n (upOf p q a n) ≡ rise (first n q) (readPair n p) a
+  up-of : (p : Pair) (q : List Float) (a : Float) → first n (upOf p q a n) ≡ rise (first n q) (readPair n p) a
   unfolding upOf rise
-  up_of p q a =
+  up-of p q a =
       ties.plus-scaled q (a ⊖ p.rho ⊗ dotOf p.y q n) p.s n
       ∙ ap (λ (t : Float). plusScaled (first n q) (a ⊖ p.rho ⊗ t) (first n p.s)) (ties.dot-of p.y q n)
 
@@ -86,10 +86,10 @@ module _ (pairs : List Pair) (n : ℕ) where
   unfolding allUpOf
   ups r alphas zero = unfold rises in refl
   ups r alphas (suc k) =
-      up_of (pair_at pairs k) (allUpOf pairs r alphas n k) (at alphas k)
-      ∙ ap (λ (q : List Float). rise q (readPair n (pair_at pairs k)) (at alphas k)) (ups r alphas k)
-      ∙ sym (rises-more (first n r) (readPairs n k pairs) (upto (at alphas) k) (readPair n (pair_at pairs k)) (at alphas k)
-      (length-upto (λ i. readPair n (pair_at pairs i)) k ∙ sym (length-upto (at alphas) k)))
+      up-of (pairAt pairs k) (allUpOf pairs r alphas n k) (at alphas k)
+      ∙ ap (λ (q : List Float). rise q (readPair n (pairAt pairs k)) (at alphas k)) (ups r alphas k)
+      ∙ sym (rises-more (first n r) (readPairs n k pairs) (upto (at alphas) k) (readPair n (pairAt pairs k)) (at alphas k)
+      (length-upto (λ i. readPair n (pairAt pairs i)) k ∙ sym (length-upto (at alphas) k)))
 
 pub limited-direction : (l : Limited) (memory : ℕ) (g : List Float) (n : ℕ) → l.count ≤ 16 → first n (limitedDirectionOf l g n) ≡ limitedDirection (readLimited n memory l) (first n g)
 unfolding limitedDirectionOf allDownOf limitedDirection
@@ -104,45 +104,45 @@ limited-direction l memory g n h =
 
 -- ---- the pairs that are kept when one more comes
 
-shifted_at : (pairs : List Pair) (k i : ℕ) → k < length pairs → i < k → pair_at (shiftedOf pairs k) i ≡ pair_at pairs (suc i)
+shifted-at : (pairs : List Pair) (k i : ℕ) → k < length pairs → i < k → pairAt (shiftedOf pairs k) i ≡ pairAt pairs (suc i)
 unfolding shiftedOf
-shifted_at pairs k i long h = stored_at noPair (λ x j. pair_at pairs (j + 1)) (λ j. j) pairs (λ a b e. e) k i h (λ j t. omega arith) ∙ ap (pair_at pairs) (add-one i)
+shifted-at pairs k i long h = stored-at noPair (λ x j. pairAt pairs (j + 1)) (λ j. j) pairs (λ a b e. e) k i h (λ j t. omega arith) ∙ ap (pairAt pairs) (add-one i)
 
-shifted_past : (pairs : List Pair) (k i : ℕ) → k ≤ i → pair_at (shiftedOf pairs k) i ≡ pair_at pairs i
+shifted-past : (pairs : List Pair) (k i : ℕ) → k ≤ i → pairAt (shiftedOf pairs k) i ≡ pairAt pairs i
 unfolding shiftedOf
-shifted_past pairs k i h = stored_other noPair (λ x j. pair_at pairs (j + 1)) (λ j. j) pairs k i (λ j t e. omega arith)
+shifted-past pairs k i h = stored-other noPair (λ x j. pairAt pairs (j + 1)) (λ j. j) pairs k i (λ j t e. omega arith)
 
 shifted-length : (pairs : List Pair) (k : ℕ) → length (shiftedOf pairs k) ≡ length pairs
 unfolding shiftedOf
-shifted-length pairs k = stored-length noPair (λ x j. pair_at pairs (j + 1)) (λ j. j) pairs k
+shifted-length pairs k = stored-length noPair (λ x j. pairAt pairs (j + 1)) (λ j. j) pairs k
 
 -- r is l with room for one more: how many are kept, which, and what stands past them
 pub record Room (memory : ℕ) (l r : Limited) : Type 0 where
   pub fewer : r.count < 16
   pub within : 0 < memory → r.count < memory
   pub long : length r.pairs ≡ 16
-  pub each : (i : ℕ) → i < 16 → (j : ℕ) × (j < 16) × (pair_at r.pairs i ≡ pair_at l.pairs j)
-  pub past : (i : ℕ) → r.count < i → (l.count ≤ i) × (pair_at r.pairs i ≡ pair_at l.pairs i)
+  pub each : (i : ℕ) → i < 16 → (j : ℕ) × (j < 16) × (pairAt r.pairs i ≡ pairAt l.pairs j)
+  pub past : (i : ℕ) → r.count < i → (l.count ≤ i) × (pairAt r.pairs i ≡ pairAt l.pairs i)
   pub kept : (n : ℕ) → readPairs n r.count r.pairs ≡ cond (eqb l.count memory) (drop 1 (readPairs n l.count l.pairs)) (readPairs n l.count l.pairs)
 
 none-less : {A : Type 0} (g : ℕ → A) (k : ℕ) → k ≡ 0 → upto g k ≡ drop 1 (upto g k)
 none-less g zero e = refl
 none-less g (suc k) e = absurd (omega arith)
 
-one_less : (pairs : List Pair) (n k : ℕ) → 0 < k → k ≤ length pairs → readPairs n (k - 1) (shiftedOf pairs (k - 1)) ≡ drop 1 (readPairs n k pairs)
-one_less pairs n zero h long = absurd (omega arith)
-one_less pairs n (suc k) h long =
+one-less : (pairs : List Pair) (n k : ℕ) → 0 < k → k ≤ length pairs → readPairs n (k - 1) (shiftedOf pairs (k - 1)) ≡ drop 1 (readPairs n k pairs)
+one-less pairs n zero h long = absurd (omega arith)
+one-less pairs n (suc k) h long =
     let e : suc k - 1 ≡ k = omega arith in
     rw e
-    (upto-same (λ i. readPair n (pair_at (shiftedOf pairs k) i)) (λ i. readPair n (pair_at pairs (suc i))) k (λ i t. ap (readPair n) (shifted_at pairs k i (omega arith) t))
-    ∙ sym (upto-drop (λ i. readPair n (pair_at pairs i)) k))
+    (upto-same (λ i. readPair n (pairAt (shiftedOf pairs k) i)) (λ i. readPair n (pairAt pairs (suc i))) k (λ i t. ap (readPair n) (shifted-at pairs k i (omega arith) t))
+    ∙ sym (upto-drop (λ i. readPair n (pairAt pairs i)) k))
 
-moved : (pairs : List Pair) (k : ℕ) → k < 16 → length pairs ≡ 16 → (i : ℕ) → i < 16 → (j : ℕ) × (j < 16) × (pair_at (shiftedOf pairs k) i ≡ pair_at pairs j)
+moved : (pairs : List Pair) (k : ℕ) → k < 16 → length pairs ≡ 16 → (i : ℕ) → i < 16 → (j : ℕ) × (j < 16) × (pairAt (shiftedOf pairs k) i ≡ pairAt pairs j)
 moved pairs k few long i h = go (ltb i k) refl
   where
-    go : (b : Bool) → ltb i k ≡ b → (j : ℕ) × (j < 16) × (pair_at (shiftedOf pairs k) i ≡ pair_at pairs j)
-    go true e = (suc i, omega (arith, ltb-true i k e), shifted_at pairs k i (omega arith) (ltb-true i k e))
-    go false e = (i, h, shifted_past pairs k i (ltb-false i k e))
+    go : (b : Bool) → ltb i k ≡ b → (j : ℕ) × (j < 16) × (pairAt (shiftedOf pairs k) i ≡ pairAt pairs j)
+    go true e = (suc i, omega (arith, ltb-true i k e), shifted-at pairs k i (omega arith) (ltb-true i k e))
+    go false e = (i, h, shifted-past pairs k i (ltb-false i k e))
 
 module _ (memory : ℕ) (l : Limited) (h : l.count ≤ memory) (small : memory ≤ 16) (long : length l.pairs ≡ 16) where
   popped-room : eqb l.count memory ≡ true → Room memory l (poppedOf l)
@@ -161,7 +161,7 @@ module _ (memory : ℕ) (l : Limited) (h : l.count ≤ memory) (small : memory �
             long = long;
             each = λ i t. (i, t, refl);
             past = λ i t. (omega arith, refl);
-            kept = λ n. rw full (none-less (λ i. readPair n (pair_at l.pairs i)) l.count none);
+            kept = λ n. rw full (none-less (λ i. readPair n (pairAt l.pairs i)) l.count none);
           }
       go false e =
           let some : 0 < l.count = omega (arith, eqb-false l.count 0 e) in
@@ -170,8 +170,8 @@ module _ (memory : ℕ) (l : Limited) (h : l.count ≤ memory) (small : memory �
             within = λ t. omega (arith, same);
             long = shifted-length l.pairs (l.count - 1) ∙ long;
             each = moved l.pairs (l.count - 1) (omega arith) long;
-            past = λ i t. (omega arith, shifted_past l.pairs (l.count - 1) i (omega arith));
-            kept = λ n. rw full (one_less l.pairs n l.count some (omega arith));
+            past = λ i t. (omega arith, shifted-past l.pairs (l.count - 1) i (omega arith));
+            kept = λ n. rw full (one-less l.pairs n l.count some (omega arith));
           }
 
   pub room : Room memory l (roomOf l memory)
@@ -199,7 +199,7 @@ module _ (memory : ℕ) (l : Limited) (h : l.count ≤ memory) (small : memory �
       let pushed = ap (λ (k : ℕ). readPairs n k (set r.pairs r.count p)) (add-one r.count)
       ∙ upto-push (readPair n) r.pairs noPair p r.count (omega (arith, room.fewer, room.long))
       ∙ ap (λ (ps : List Pair). ps ++ (readPair n p ∷ [])) (room.kept n) in
-      rw (← ties.dot-of s y n, ← ties.dot-of y y n, length-upto (λ i. readPair n (pair_at l.pairs i)) l.count)
+      rw (← ties.dot-of s y n, ← ties.dot-of y y n, length-upto (λ i. readPair n (pairAt l.pairs i)) l.count)
       (ap (λ (ps : List Pair). record { m = memory; pairs = ps; gamma = cond (lt plusZero (dotOf y y n)) (dotOf s y n ⊘ dotOf y y n) l.gamma }) pushed)
 
 pub new-limited : (n memory : ℕ) → readLimited n memory (noPairsOf one) ≡ newMemory memory

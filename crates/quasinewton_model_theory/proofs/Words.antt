@@ -12,14 +12,14 @@ use Rattle.vector.specs.Loops.{upto}
 use Rattle.vector.specs.Lists.{dot, matVec, negation, scaled, plusScaled}
 use Rattle.quasinewton_limited.specs.declared.Pair.{Pair}
 use Rattle.quasinewton_model_theory.specs.Algorithm.{InvHessian, dense, limited, one, entry, square, diagonal, newDense, denseDirection, rankTwo, denseUpdate, newMemory, fall, rise, rises, limitedDirection, limitedUpdate, newHessian, direction, update}
-use Rattle.quasinewton_model.specs.Step.{noPair, pair_at}
+use Rattle.quasinewton_model.specs.Step.{noPair, pairAt}
 use Rattle.quasinewton_model_theory.specs.Ties.{Words, OfF64s, HessianWords}
 
 -- ---- what holds at each place of a list, and of what stands in past its end
-each_append : {A : Type 0} (P : A → Type 0) (d : A) (a b : List A) → ((k : ℕ) → P (get_or a k d)) → ((k : ℕ) → P (get_or b k d)) → (k : ℕ) → P (get_or (a ++ b) k d)
-each_append P d [] b p q k = q k
-each_append P d (x ∷ xs) b p q zero = p 0
-each_append P d (x ∷ xs) b p q (suc k) = each_append P d xs b (λ i. p (suc i)) q k
+each-append : {A : Type 0} (P : A → Type 0) (d : A) (a b : List A) → ((k : ℕ) → P (get_or a k d)) → ((k : ℕ) → P (get_or b k d)) → (k : ℕ) → P (get_or (a ++ b) k d)
+each-append P d [] b p q k = q k
+each-append P d (x ∷ xs) b p q zero = p 0
+each-append P d (x ∷ xs) b p q (suc k) = each-append P d xs b (λ i. p (suc i)) q k
 
 each-one : {A : Type 0} (P : A → Type 0) (d x : A) → P d → P x → (k : ℕ) → P (get_or (x ∷ []) k d)
 each-one P d x p q zero = q
@@ -27,7 +27,7 @@ each-one P d x p q (suc k) = p
 
 each-upto : {A : Type 0} (P : A → Type 0) (d : A) (g : ℕ → A) → P d → ((i : ℕ) → P (g i)) → (n k : ℕ) → P (get_or (upto g n) k d)
 each-upto P d g p q zero k = p
-each-upto P d g p q (suc n) k = each_append P d (upto g n) (g n ∷ []) (each-upto P d g p q n) (each-one P d (g n) p (q n)) k
+each-upto P d g p q (suc n) k = each-append P d (upto g n) (g n ∷ []) (each-upto P d g p q n) (each-one P d (g n) p (q n)) k
 
 each-drop : {A : Type 0} (P : A → Type 0) (d : A) (a : List A) → ((k : ℕ) → P (get_or a k d)) → (k : ℕ) → P (get_or (drop 1 a) k d)
 each-drop P d [] p k = p k
@@ -68,13 +68,13 @@ negation-words [] w k = none
 negation-words (x ∷ xs) w zero = closed.negation x (w 0)
 negation-words (x ∷ xs) w (suc k) = negation-words xs (λ i. w (suc i)) k
 
-sum_fits : (z : Float) (l : List Float) → F64 z → F64 (foldl ◌⊕◌ z l)
-sum_fits z [] f = f
-sum_fits z (x ∷ xs) f = sum_fits (z ⊕ x) xs (closed.sum z x)
+sum-fits : (z : Float) (l : List Float) → F64 z → F64 (foldl ◌⊕◌ z l)
+sum-fits z [] f = f
+sum-fits z (x ∷ xs) f = sum-fits (z ⊕ x) xs (closed.sum z x)
 
 dot-fits : (a b : List Float) → F64 (dot a b)
 unfolding dot fits
-dot-fits a b = sum_fits minusZero (zip_with ◌⊗◌ a b) tt
+dot-fits a b = sum-fits minusZero (zip_with ◌⊗◌ a b) tt
 
 -- ---- directions
 rises-words : (q : List Float) (ps : List Pair) (as' : List Float) → Words q → Words (rises q ps as')
@@ -115,8 +115,8 @@ update-words (limited l) s y w ws wy =
     let p : Pair = record { s = s; y = y; rho = one ⊘ sy } in
     let few = cond (eqb (length l.pairs) l.m) (drop 1 l.pairs) l.pairs in (
       cond-fits binary64 (lt plusZero (dot y y)) (sy ⊘ dot y y) l.gamma (closed.quotient sy (dot y y)) w.0,
-      each_append PairWords noPair few (p ∷ [])
-          (each-cond (λ (ps : List Pair). (k : ℕ) → PairWords (pair_at ps k)) (eqb (length l.pairs) l.m) (drop 1 l.pairs) l.pairs (each-drop PairWords noPair l.pairs w.1) w.1)
+      each-append PairWords noPair few (p ∷ [])
+          (each-cond (λ (ps : List Pair). (k : ℕ) → PairWords (pairAt ps k)) (eqb (length l.pairs) l.m) (drop 1 l.pairs) l.pairs (each-drop PairWords noPair l.pairs w.1) w.1)
           (each-one PairWords noPair p (λ k. none, λ k. none, none) (ws, wy, closed.quotient one sy)),
     )
 

@@ -3,26 +3,26 @@
 use Rattle.std.specs.Prelude.{ℕ, ◌+◌, ◌*◌, ◌≤◌, ◌<◌, ◌≡◌, ◌⊎◌, Bool, true, cond, List, length, Float}
 use Rattle.float.specs.Binary64.{F64, plusZero}
 use Rattle.vector.specs.Loops.{upto, at}
-use Rattle.vector.specs.Lists.{first, rows_of}
+use Rattle.vector.specs.Lists.{first, rowsOf}
 use Rattle.vector.specs.Ties.{ZeroFrom}
 use Rattle.quasinewton_dense.specs.declared.Dense.{Dense}
 use Rattle.quasinewton_limited.specs.declared.Pair.{Pair}
 use Rattle.quasinewton_limited.specs.declared.Limited.{Limited}
 use Rattle.quasinewton_model.specs.declared.Model.{Model}
 use Rattle.quasinewton_model_theory.specs.Algorithm.{DenseInvHessian, LbfgsMemory, InvHessian, dense, limited, entry, newHessian, direction, update}
-use Rattle.quasinewton_model.specs.Step.{ModelInRange, pair_at, blankPair, newModelOf, directionOf, updateOf}
+use Rattle.quasinewton_model.specs.Step.{ModelInRange, pairAt, blankPair, newModelOf, directionOf, updateOf}
 
 -- ---- what a model holds, over n coordinates
 
 abbrev pub readDense : ℕ → Dense → DenseInvHessian
-readDense n d = record { rows = rows_of n d.h; first = d.fresh }
+readDense n d = record { rows = rowsOf n d.h; first = d.fresh }
 
 abbrev pub readPair : ℕ → Pair → Pair
 readPair n p = record { s = first n p.s; y = first n p.y; rho = p.rho }
 
 -- the first k pairs
 abbrev pub readPairs : ℕ → ℕ → List Pair → List Pair
-readPairs n k pairs = upto (λ i. readPair n (pair_at pairs i)) k
+readPairs n k pairs = upto (λ i. readPair n (pairAt pairs i)) k
 
 abbrev pub readLimited : ℕ → ℕ → Limited → LbfgsMemory
 readLimited n memory l = record { m = memory; pairs = readPairs n l.count l.pairs; gamma = l.gamma }
@@ -38,17 +38,17 @@ pub record ModelSized (m : Model) : Type 0 where
   pub some : m.limited ≡ true → 0 < m.memory
   pub square : length m.dense.h ≡ 256
   pub many : length m.pairs.pairs ≡ 16
-  pub wide-s : (i : ℕ) → i < 16 → length (pair_at m.pairs.pairs i).s ≡ 16
-  pub wide-y : (i : ℕ) → i < 16 → length (pair_at m.pairs.pairs i).y ≡ 16
+  pub wide-s : (i : ℕ) → i < 16 → length (pairAt m.pairs.pairs i).s ≡ 16
+  pub wide-y : (i : ℕ) → i < 16 → length (pairAt m.pairs.pairs i).y ≡ 16
 
 -- ---- words past n
 
 -- that of every row and column of H and of every pair; the pairs past the count are zero altogether
 pub record ModelZeroPast (n : ℕ) (m : Model) : Type 0 where
   pub rows : (i j : ℕ) → i < 16 → j < 16 → (n ≤ i) ⊎ (n ≤ j) → at m.dense.h (i * 16 + j) ≡ plusZero
-  pub zero-s : (i : ℕ) → i < 16 → ZeroFrom n (pair_at m.pairs.pairs i).s
-  pub zero-y : (i : ℕ) → i < 16 → ZeroFrom n (pair_at m.pairs.pairs i).y
-  pub past : (i : ℕ) → m.pairs.count ≤ i → i < 16 → pair_at m.pairs.pairs i ≡ blankPair
+  pub zero-s : (i : ℕ) → i < 16 → ZeroFrom n (pairAt m.pairs.pairs i).s
+  pub zero-y : (i : ℕ) → i < 16 → ZeroFrom n (pairAt m.pairs.pairs i).y
+  pub past : (i : ℕ) → m.pairs.count ≤ i → i < 16 → pairAt m.pairs.pairs i ≡ blankPair
 
 -- ---- f64s
 
@@ -59,7 +59,7 @@ Words x = (k : ℕ) → F64 (at x k)
 -- each word of a model
 abbrev pub OfF64s : InvHessian → Type 0
 OfF64s (dense d) = (i j : ℕ) → F64 (entry d.rows i j)
-OfF64s (limited l) = F64 l.gamma × ((i : ℕ) → Words (pair_at l.pairs i).s × Words (pair_at l.pairs i).y × F64 (pair_at l.pairs i).rho)
+OfF64s (limited l) = F64 l.gamma × ((i : ℕ) → Words (pairAt l.pairs i).s × Words (pairAt l.pairs i).y × F64 (pairAt l.pairs i).rho)
 
 -- ---- what ties the two, for n ≤ 16
 

@@ -31,8 +31,8 @@ byGradient = 5
 abbrev pub byFunction : ℕ
 byFunction = 6
 
-abbrev pub by_step : ℕ
-by_step = 7
+abbrev pub byStep : ℕ
+byStep = 7
 
 abbrev pub byIterations : ℕ
 byIterations = 8
@@ -110,8 +110,8 @@ idleOf =
     }
 
 -- the value at x is asked for
-unfoldable pub start_of : List Float → Descent
-start_of x =
+unfoldable pub startOf : List Float → Descent
+startOf x =
     record {
       phase = firstValue;
       number = 0;

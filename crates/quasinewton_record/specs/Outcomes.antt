@@ -7,7 +7,7 @@ use Rattle.linesearch_trials.specs.declared.Evaluation.{Evaluation}
 use Rattle.quasinewton_record.specs.declared.Fixed.{Fixed}
 use Rattle.quasinewton_record.specs.declared.Descent.{Descent}
 use Rattle.quasinewton_record.specs.Formulas.{smallDecreaseOf, smallStepOf}
-use Rattle.quasinewton_record.specs.Descents.{byFunction, by_step, bySearch, byGradientFailed, atHead, inPhase, withLine, valuedAt}
+use Rattle.quasinewton_record.specs.Descents.{byFunction, byStep, bySearch, byGradientFailed, atHead, inPhase, withLine, valuedAt}
 
 -- "keep any improvement, then stop"
 unfoldable pub lowerOf : Descent → ℕ → Evaluation → Descent
@@ -38,10 +38,10 @@ steppedOf q t =
     }
 
 -- the tests after the step to t, which do not read the model: past them the record is at the next head
-unfoldable pub tested_of : Fixed → Descent → Evaluation → Descent
-tested_of fixed q t =
+unfoldable pub testedOf : Fixed → Descent → Evaluation → Descent
+testedOf fixed q t =
     let o = fixed.options in
     let p = steppedOf q t in
     cond (not (allFiniteOf t.g fixed.n)) (lowerOf q byGradientFailed t)
     (cond (smallDecreaseOf o.ftol q.line.f t.trial.value) (inPhase p byFunction)
-    (cond (smallStepOf o.xtol q.line.x t.x fixed.n) (inPhase p by_step) p))
+    (cond (smallStepOf o.xtol q.line.x t.x fixed.n) (inPhase p byStep) p))

@@ -1,6 +1,6 @@
 // The tests and the first step of a gradient fit, over points of sixteen coordinates.
 ghost use Rattle.std.specs.Prelude.{◌≡◌, ◌≤◌};
-ghost use Rattle.quasinewton_record.specs.Formulas.{stores_of, smallDecreaseOf, smallStepOf, initialStepOf, notDescendingOf};
+ghost use Rattle.quasinewton_record.specs.Formulas.{storesOf, smallDecreaseOf, smallStepOf, initialStepOf, notDescendingOf};
 
 // The least share of |s| |y| for which a pair is taken in.
 const CURVATURE: f64 = 1e-12;
@@ -10,7 +10,7 @@ const LEAST: f64 = 1e-30;
 // Whether the pair (s, y) is taken into the model.
 pub fn stores(s: [f64; 16], y: [f64; 16], n: usize) -> bool
     requires { n ≤ 16 }
-    ensures { result ≡ stores_of s y n }
+    ensures { result ≡ storesOf s y n }
 {
     vector::dot(s, y, n) > CURVATURE * vector::inf_norm(s, n) * vector::inf_norm(y, n)
 }

@@ -4,7 +4,7 @@ mod outcomes;
 
 ghost use Rattle.std.specs.Prelude.{◌≡◌};
 ghost use Rattle.linesearch.specs.Step.{noTrial};
-ghost use Rattle.quasinewton_record.specs.Descents.{inPhase, refusedBy, searchFixed, asksOf, gradientDueOf, idleOf, start_of};
+ghost use Rattle.quasinewton_record.specs.Descents.{inPhase, refusedBy, searchFixed, asksOf, gradientDueOf, idleOf, startOf};
 
 pub use formulas::{initial_step, not_descending, small_decrease, small_step, stores};
 use linesearch::{Evaluation, Line, Search, Trial};
@@ -181,7 +181,7 @@ pub fn idle() -> Descent
 
 // The value at x is asked for.
 pub fn start(x: [f64; 16]) -> Descent
-    ensures { result ≡ start_of x }
+    ensures { result ≡ startOf x }
 {
     let zero = [0.0; 16];
     let line = Line {

@@ -1,6 +1,6 @@
 // What follows a search: the record after its step, and the tests after it.
 ghost use Rattle.std.specs.Prelude.{◌≡◌, ◌≤◌};
-ghost use Rattle.quasinewton_record.specs.Outcomes.{lowerOf, missedOf, pairStepOf, pairChangeOf, steppedOf, tested_of};
+ghost use Rattle.quasinewton_record.specs.Outcomes.{lowerOf, missedOf, pairStepOf, pairChangeOf, steppedOf, testedOf};
 
 use crate::{AT_HEAD, BY_FUNCTION, BY_GRADIENT_FAILED, BY_SEARCH, BY_STEP, Descent, Fixed};
 use linesearch::Evaluation;
@@ -79,7 +79,7 @@ fn stepped(q: Descent, t: Evaluation) -> Descent
 // is at the next head.
 pub fn tested(fixed: Fixed, q: Descent, t: Evaluation) -> Descent
     requires { fixed.n ≤ 16 }
-    ensures { result ≡ tested_of fixed q t }
+    ensures { result ≡ testedOf fixed q t }
 {
     let o = fixed.options;
     let l = q.line;

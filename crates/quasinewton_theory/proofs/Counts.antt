@@ -12,7 +12,7 @@ use lib.ListN.{length}
 use lib.Ieee.{Float, neg, lt}
 use Rattle.float.specs.Binary64.{plusZero}
 use Rattle.float.specs.Values.{finiteOf}
-use Rattle.float.proofs.Tests.{by_cond}
+use Rattle.float.proofs.Tests.{by-cond}
 use Rattle.vector.specs.Lists.{dot, allFinite, negation}
 use Rattle.protocol.specs.declared.Kind.{Kind}
 use Rattle.protocol.specs.declared.Kind.TheVariants.{Value, Gradient}
@@ -20,14 +20,14 @@ use Rattle.protocol.specs.declared.SimplexOptions.{SimplexOptions}
 use Rattle.protocol.specs.declared.GradientOptions.{GradientOptions}
 use Rattle.protocol.specs.declared.Termination.{Termination}
 use Rattle.protocol.specs.declared.Termination.TheVariants.{LineSearchFailed, GradientFailed}
-use Rattle.protocol.specs.Protocol.{read_of, Job, Fit}
+use Rattle.protocol.specs.Protocol.{readOf, Job, Fit}
 use Rattle.protocol.specs.Dialogue.{ofKind, run}
 use Rattle.protocol.specs.Claim.{Limit, limit, ◌⊑◌}
 use Rattle.protocol.specs.Ask.{Ask, finish, askValue, ◌>>=◌}
 use Rattle.protocol.specs.Rounds.{Ending, atHead, stops, fails, Rounds, FitLimits, reached, limitsOf, engine}
-use Rattle.protocol.specs.Bounds.{Costs, Keeps, of_both, BoundLaws, QuestionsAtMost}
+use Rattle.protocol.specs.Bounds.{Costs, Keeps, ofBoth, BoundLaws, QuestionsAtMost}
 use Rattle.protocol.specs.Fits.{fits}
-use Rattle.protocol.proofs.Bounds.{costs-more, costs-bind, cond-costs, keeps-by-cost, all-questions, questions-at-most, none-used, one_left}
+use Rattle.protocol.proofs.Bounds.{costs-more, costs-bind, cond-costs, keeps-by-cost, all-questions, questions-at-most, none-used, one-left}
 use Rattle.protocol.proofs.FitsBounds.{bfgs-bounds, lbfgs-bounds}
 use Rattle.objective.specs.Algorithm.{evalGradient}
 use Rattle.quasinewton_model_theory.specs.Algorithm.{direction}
@@ -62,42 +62,42 @@ module _ (κ : Kind) (n : ℕ) where
     Given (refuses w) = Unit {0}
     Given (gives r) = length r.at.x ≤ n
 
-    stops_end : (why : Termination) (t : Evaluation) (b : Bool) → Q (stopsLower why p t b)
-    stops_end why t true = tt
-    stops_end why t false = tt
+    stops-end : (why : Termination) (t : Evaluation) (b : Bool) → Q (stopsLower why p t b)
+    stops-end why t true = tt
+    stops-end why t false = tt
 
     succeeded-end : (t : Evaluation) → length t.x ≤ n → Q (succeeded p t)
     unfolding stepped
     succeeded-end t h =
-        by_cond Q (not (allFinite t.g)) _ _ (λ i. stops_end GradientFailed t (lt t.trial.value p.f))
-        (λ i. by_cond Q (smallDecrease p.options.ftol p.f t.trial.value) _ _ (λ j. tt)
-        (λ j. by_cond Q (smallStep p.options.xtol p.x t.x) _ _ (λ k. tt) (λ k. (h, refl, refl))))
+        by-cond Q (not (allFinite t.g)) _ _ (λ i. stops-end GradientFailed t (lt t.trial.value p.f))
+        (λ i. by-cond Q (smallDecrease p.options.ftol p.f t.trial.value) _ _ (λ j. tt)
+        (λ j. by-cond Q (smallStep p.options.xtol p.x t.x) _ _ (λ k. tt) (λ k. (h, refl, refl))))
 
     concluded-end : (s : Searched) → Given s → Q (concluded p s)
     concluded-end (refuses w) h = tt
     concluded-end (gives r) h =
-        by_cond Q r.success _ _ (λ i. succeeded-end r.at h) (λ i. stops_end LineSearchFailed r.at (lt plusZero r.at.trial.step && lt r.at.trial.value p.f))
+        by-cond Q r.success _ _ (λ i. succeeded-end r.at h) (λ i. stops-end LineSearchFailed r.at (lt plusZero r.at.trial.step && lt r.at.trial.value p.f))
 
     -- E trials
     abbrev most : ℕ
     most = p.options.wolfe.evals * each p.options
 
     module _ (short : length p.x ≤ n) where
-      wolfe-costs : (d : List Float) (step : Float) → Costs κ most (strongWolfe read_of p.options.gradients p.options.wolfe p.x d p.f p.g step) Given
+      wolfe-costs : (d : List Float) (step : Float) → Costs κ most (strongWolfe readOf p.options.gradients p.options.wolfe p.x d p.f p.g step) Given
       unfolding strongWolfe
       wolfe-costs d step =
           let l : Line = lineFrom p.x d p.f p.g in
-          let m = search read_of p.options.gradients p.options.wolfe l step in
+          let m = search readOf p.options.gradients p.options.wolfe l step in
           cond-costs κ most (eqb (wolfeRefusal p.options.wolfe p.x d p.f p.g step).number 0) (m >>= λ r. finish (gives r)) _ Given
           (costs-more κ (most + 0) most (m >>= λ r. finish (gives r)) Given (omega arith)
           (costs-bind κ most 0 m (λ r. finish (gives r)) (λ r. length r.at.x ≤ n) Given
-          (search-counts.search-costs κ read_of p.options.gradients p.options.wolfe l step n short) (λ r h. h)))
+          (search-counts.search-costs κ readOf p.options.gradients p.options.wolfe l step n short) (λ r h. h)))
           tt
 
       searched-costs : (d : List Float) → Costs κ most (searched p d) Q
       searched-costs d =
           let step = initialStep p.first d in
-          let m = strongWolfe read_of p.options.gradients p.options.wolfe p.x d p.f p.g step in
+          let m = strongWolfe readOf p.options.gradients p.options.wolfe p.x d p.f p.g step in
           costs-more κ (most + 0) most (m >>= λ r. finish (concluded p r)) Q (omega arith)
           (costs-bind κ most 0 m (λ r. finish (concluded p r)) Given Q (wolfe-costs d step) concluded-end)
 
@@ -112,17 +112,17 @@ module _ (κ : Kind) (n : ℕ) where
 
   opened-costs : (limits : Bool) (o : GradientOptions) (x : List Float) → length x ≤ n → Costs κ (each o) (opened limits o x) (End o 0)
   opened-costs limits o x h =
-      costs-bind κ (ofKind κ Value) per (askValue read_of x) (withValue limits o x) (λ v. Unit {0}) (End o 0) (0, omega arith, λ w. tt)
+      costs-bind κ (ofKind κ Value) per (askValue readOf x) (withValue limits o x) (λ v. Unit {0}) (End o 0) (0, omega arith, λ w. tt)
       (λ v u. cond-costs κ per (not (finiteOf v)) (finish (fails 18 0)) (graded v) (End o 0) tt
       (costs-more κ (per + 0) per (graded v) (End o 0) (omega arith)
-      (costs-bind κ per 0 m (λ g. finish (withGradient limits o x v g)) (λ g. Unit {0}) (End o 0) (search-counts.gradient-costs κ read_of o.gradients x n h)
-      (λ g t. by_cond (End o 0) (not (allFinite g)) _ _ (λ i. tt) (λ i. (h, refl, refl))))))
+      (costs-bind κ per 0 m (λ g. finish (withGradient limits o x v g)) (λ g. Unit {0}) (End o 0) (search-counts.gradient-costs κ readOf o.gradients x n h)
+      (λ g t. by-cond (End o 0) (not (allFinite g)) _ _ (λ i. tt) (λ i. (h, refl, refl))))))
     where
       per : ℕ
       per = perGradient κ o.gradients n
 
       m : Ask (List Float)
-      m = evalGradient read_of o.gradients x
+      m = evalGradient readOf o.gradients x
 
       graded : Float → Ask (Ending GradientPosition)
       graded v = m >>= λ g. finish (withGradient limits o x v g)
@@ -152,14 +152,14 @@ module _ (κ : Kind) (limits : Bool) (o : GradientOptions) (x : List Float) (l :
       opening-case (Keeps κ bound Head 0) limits (begunWith limits o) x (λ k d. tt)
       (λ a. keeps 0 trial 0 (opened limits (begunWith limits o) x) (opened-costs κ n limits (begunWith limits o) x (le_refl n)) (none-used l.iter) (omega arith))
 
-  rounds : (v g : ℕ) (p : GradientPosition) → Head (of_both κ v g) p → reached p.iterations l.iter ≡ false → Keeps κ bound Head (of_both κ v g) (round p)
+  rounds : (v g : ℕ) (p : GradientPosition) → Head (ofBoth κ v g) p → reached p.iterations l.iter ≡ false → Keeps κ bound Head (ofBoth κ v g) (round p)
   rounds v g p h i =
-      keeps (of_both κ v g) (o.wolfe.evals * trial) (suc p.iterations) (round p)
+      keeps (ofBoth κ v g) (o.wolfe.evals * trial) (suc p.iterations) (round p)
       (subst (λ (z : GradientOptions). Costs κ (z.wolfe.evals * perTrial κ z.gradients n) (round p) (End κ n z (suc p.iterations))) h.1 (round-costs κ n p h.0))
-      (one_left p.iterations l.iter i) (omega (arith, h.3, suc-mul p.iterations (o.wolfe.evals * trial)))
+      (one-left p.iterations l.iter i) (omega (arith, h.3, suc-mul p.iterations (o.wolfe.evals * trial)))
 
   capped : BoundLaws quasiNewton κ bound l (limits, o) x
-  capped = record { Head = Head; opening-keeps = opens; restart-keeps = λ k p m h e. absurd (no-restart p m e); round_keeps = λ v g p h i j. rounds v g p h i }
+  capped = record { Head = Head; opening-keeps = opens; restart-keeps = λ k p m h e. absurd (no-restart p m e); round-keeps = λ v g p h i j. rounds v g p h i }
 
 -- ---- the two bounds
 
@@ -179,13 +179,13 @@ module _ (limits : Bool) (o : GradientOptions) (x : List Float) (l : FitLimits) 
       let within : j ≤ I = subst (λ (z : Limit). limit j ⊑ z) i few in
       subst (λ (z : ℕ). z + j * (E * z) ≤ t * (1 + I * E)) (sym e) (omega (arith, times t I E, mul-le-mul_right (E * t) within)))
 
-  one_each : (κ : Kind) → perTrial κ true (length x) ≡ 1
-  one_each Value = refl
-  one_each Gradient = refl
+  one-each : (κ : Kind) → perTrial κ true (length x) ≡ 1
+  one-each Value = refl
+  one-each Gradient = refl
 
   with-gradients : (κ : Kind) (I : ℕ) → o.gradients ≡ true → l.iter ≡ limit I → BoundLaws quasiNewton κ (withGradients I o) l (limits, o) x
   with-gradients κ I e i =
-      subst (λ (b : ℕ). BoundLaws quasiNewton κ b l (limits, o) x) (omega arith) (bounded κ 1 I (ap (λ (b : Bool). perTrial κ b (length x)) e ∙ one_each κ) i)
+      subst (λ (b : ℕ). BoundLaws quasiNewton κ b l (limits, o) x) (omega arith) (bounded κ 1 I (ap (λ (b : Bool). perTrial κ b (length x)) e ∙ one-each κ) i)
 
   without-gradients : (I : ℕ) → o.gradients ≡ false → l.iter ≡ limit I → BoundLaws quasiNewton Value (withoutGradients I o x) l (limits, o) x
   without-gradients I e i = bounded Value (1 + 2 * length x) I (ap (λ (b : Bool). perTrial Value b (length x)) e) i

@@ -54,9 +54,9 @@ unfolding negation
 negation-f64s [] w = tt
 negation-f64s (x ∷ g) w = (closed.negation x w.0, negation-f64s g w.1)
 
-of_words : (d : List Float) → Words d → F64s d
-of_words [] w = tt
-of_words (x ∷ d) w = (w 0, of_words d (λ k. w (suc k)))
+of-words : (d : List Float) → Words d → F64s d
+of-words [] w = tt
+of-words (x ∷ d) w = (w 0, of-words d (λ k. w (suc k)))
 
 -- ---- the model's shape lasts
 
@@ -82,4 +82,4 @@ update-shaped n (limited l) s y k i j =
     (pairs-popped n (eqb (length l.pairs) l.m) l.pairs k) i j
 
 pub directions : DirectionLaws
-directions = record { long = direction-long; f64s = λ h g. of_words (direction h g) (hessian-words.direction-words h g); new-shaped = new-shaped; update-shaped = update-shaped }
+directions = record { long = direction-long; f64s = λ h g. of-words (direction h g) (hessian-words.direction-words h g); new-shaped = new-shaped; update-shaped = update-shaped }

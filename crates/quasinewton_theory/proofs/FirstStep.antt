@@ -15,28 +15,28 @@ use lib.Ieee.Fits.{up_pos, down_pos, and_r}
 use lib.Ieee.Order.{round_mono}
 use lib.Ieee.Positive.{positive, above, above_of_le}
 use Rattle.float.specs.Binary64.{F64, Number, ◌⊘◌, bits, plusZero}
-use Rattle.float.specs.Values.{Finite, finiteOf, positiveOf, absOf, max_of, minOf}
+use Rattle.float.specs.Values.{Finite, finiteOf, positiveOf, absOf, maxOf, minOf}
 use Rattle.float.proofs.Order.{not-lt→le}
 use Rattle.float.proofs.Tests.{false-T}
 use Rattle.vector.specs.Lists.{infNorm, allFinite}
 use Rattle.protocol.specs.Dialogue.{F64s}
-use Rattle.protocol.proofs.Replies.{true-T, and_left, not-above-self}
+use Rattle.protocol.proofs.Replies.{true-T, and-left, not-above-self}
 use Rattle.quasinewton_model_theory.specs.Algorithm.{one}
 use Rattle.quasinewton_theory.specs.Algorithm.{initialStep}
 
 -- ---- all of a list finite
 
-all_from : (b : Bool) (xs : List Float) → foldl (λ b v. b && finiteOf v) b xs ≡ true → b ≡ true
-all_from b [] e = e
-all_from b (x ∷ xs) e = and_left b (finiteOf x) (all_from (b && finiteOf x) xs e)
+all-from : (b : Bool) (xs : List Float) → foldl (λ b v. b && finiteOf v) b xs ≡ true → b ≡ true
+all-from b [] e = e
+all-from b (x ∷ xs) e = and-left b (finiteOf x) (all-from (b && finiteOf x) xs e)
 
 pub first-finite : (x : Float) (xs : List Float) → allFinite (x ∷ xs) ≡ true → finiteOf x ≡ true
 unfolding allFinite
-first-finite x xs e = all_from (finiteOf x) xs e
+first-finite x xs e = all-from (finiteOf x) xs e
 
 pub rest-finite : (x : Float) (xs : List Float) → allFinite (x ∷ xs) ≡ true → allFinite xs ≡ true
 unfolding allFinite
-rest-finite x xs e = subst (λ (b : Bool). foldl (λ b v. b && finiteOf v) b xs ≡ true) (all_from (finiteOf x) xs e) e
+rest-finite x xs e = subst (λ (b : Bool). foldl (λ b v. b && finiteOf v) b xs ≡ true) (all-from (finiteOf x) xs e) e
 
 -- ---- the largest magnitude of finite f64s
 
@@ -54,8 +54,8 @@ plain-abs (inf s) h f = f
 plain-abs (fin s zero e) h f = h
 plain-abs (fin s (suc m) e) h f = h
 
-plain-max : (x y : Float) → Plain x → Plain y → Plain (max_of x y)
-unfolding max_of
+plain-max : (x y : Float) → Plain x → Plain y → Plain (maxOf x y)
+unfolding maxOf
 plain-max x y p q = pick (is_nan x) (lt x y)
   where
     pick : (a b : Bool) → Plain (cond a y (cond b y x))
@@ -63,10 +63,10 @@ plain-max x y p q = pick (is_nan x) (lt x y)
     pick false true = q
     pick false false = p
 
-plain-from : (m : Float) (d : List Float) → Plain m → F64s d → allFinite d ≡ true → Plain (foldl (λ m v. max_of m (absOf v)) m d)
+plain-from : (m : Float) (d : List Float) → Plain m → F64s d → allFinite d ≡ true → Plain (foldl (λ m v. maxOf m (absOf v)) m d)
 plain-from m [] p w e = p
 plain-from m (x ∷ d) p w e =
-    plain-from (max_of m (absOf x)) d (plain-max m (absOf x) p (plain-abs x w.0 (true-T (finiteOf x) (first-finite x d e)))) w.1 (rest-finite x d e)
+    plain-from (maxOf m (absOf x)) d (plain-max m (absOf x) p (plain-abs x w.0 (true-T (finiteOf x) (first-finite x d e)))) w.1 (rest-finite x d e)
 
 plain-norm : (d : List Float) → F64s d → allFinite d ≡ true → Plain (infNorm d)
 unfolding infNorm fits
@@ -81,22 +81,22 @@ tiny-is = refl
 tiny-plain : Plain (bits 0x39b4_484b_feeb_c2a0)
 tiny-plain = rw tiny-is (rw tiny-is at (of_bits-fits binary64 0x39b4_484b_feeb_c2a0))
 
-above_zero : (e : ℤ) (n : ℕ) (d : ℤ) → T (ltb 0 n) → lt (fin false 0 e) (fin false n d) ≡ true
+above-zero : (e : ℤ) (n : ℕ) (d : ℤ) → T (ltb 0 n) → lt (fin false 0 e) (fin false n d) ≡ true
 unfolding lt
-above_zero e n d h =
+above-zero e n d h =
     let p : 0 < n * up d * down e = mul-pos (mul-pos (ltb→lt 0 n h) (up_pos d)) (down_pos e) in
     let z : 0 * up e * down d ≡ 0 = ap (λ (k : ℕ). k * down d) (zero-mul (up e)) ∙ zero-mul (down d) in
     is_true (ltb (0 * up e * down d) (n * up d * down e)) (subst (λ (k : ℕ). T (ltb k (n * up d * down e))) (sym z) (lt→ltb 0 (n * up d * down e) p))
 
-positive-max : (x : Float) (n : ℕ) (d : ℤ) → Plain x → T (ltb 0 n) → T (positive (max_of x (fin false n d)))
-unfolding is_nan max_of
+positive-max : (x : Float) (n : ℕ) (d : ℤ) → Plain x → T (ltb 0 n) → T (positive (maxOf x (fin false n d)))
+unfolding is_nan maxOf
 positive-max nan n d p h = absurd p
 positive-max (inf s) n d p h = absurd p
 positive-max (fin true m e) n d p h = absurd p
 positive-max (fin false m e) n d p h = go (lt (fin false m e) (fin false n d)) refl
   where
     some : (k : ℕ) → lt (fin false k e) (fin false n d) ≡ false → T (ltb 0 k)
-    some zero i = absurd (true≢false (sym (above_zero e n d h) ∙ i))
+    some zero i = absurd (true≢false (sym (above-zero e n d h) ∙ i))
     some (suc k) i = lt→ltb 0 (suc k) (omega arith)
 
     go : (c : Bool) → lt (fin false m e) (fin false n d) ≡ c → T (positive (cond c (fin false n d) (fin false m e)))
@@ -170,24 +170,24 @@ capped (fin false m e) a = pick (lt (fin false 1 (pos 0)) (fin false m e))
   where
     pick : (b : Bool) → positiveOf (cond b (fin false 1 (pos 0)) (fin false m e)) ≡ true
     pick true = refl
-    pick false = rw (above_zero (pos 0) m e a)
+    pick false = rw (above-zero (pos 0) m e a)
 
 pub first-step-positive : (first : Bool) (d : List Float) → F64s d → allFinite d ≡ true → positiveOf (initialStep first d) ≡ true
 unfolding initialStep
 first-step-positive false d w f = rw one-is (unfold positiveOf lt finiteOf in refl)
 first-step-positive true d w f =
-    let m = max_of (infNorm d) (bits 0x39b4_484b_feeb_c2a0) in
+    let m = maxOf (infNorm d) (bits 0x39b4_484b_feeb_c2a0) in
     let h = plain-norm d w f in
-    let p : T (positive m) = subst (λ (z : Float). T (positive (max_of (infNorm d) z))) (sym tiny-is) (positive-max (infNorm d) 178405961588245 (negsuc 146) h tt) in
+    let p : T (positive m) = subst (λ (z : Float). T (positive (maxOf (infNorm d) z))) (sym tiny-is) (positive-max (infNorm d) 178405961588245 (negsuc 146) h tt) in
     let i : T (above (fin false 1 (pos 0) ⊘ m)) = inverse-above m (plain-f64 m (plain-max (infNorm d) (bits 0x39b4_484b_feeb_c2a0) h tiny-plain)) p in
     subst (λ (o : Float). positiveOf (minOf (o ⊘ m) o) ≡ true) (sym one-is) (capped (fin false 1 (pos 0) ⊘ m) i)
 
 number-one : Number one
 number-one = rw one-is (unfold is_nan in tt)
 
-at_most_one : (q : Float) → T (le (minOf q one) one)
+at-most-one : (q : Float) → T (le (minOf q one) one)
 unfolding minOf
-at_most_one q = go (is_nan q) (lt one q) refl refl
+at-most-one q = go (is_nan q) (lt one q) refl refl
   where
     self : T (le one one)
     self = not-lt→le one one number-one number-one (not-above-self one)
@@ -200,4 +200,4 @@ at_most_one q = go (is_nan q) (lt one q) refl refl
 pub first-step-at-most-one : (first : Bool) (d : List Float) → T (le (initialStep first d) one)
 unfolding initialStep
 first-step-at-most-one false d = not-lt→le one one number-one number-one (not-above-self one)
-first-step-at-most-one true d = at_most_one (one ⊘ max_of (infNorm d) (bits 0x39b4_484b_feeb_c2a0))
+first-step-at-most-one true d = at-most-one (one ⊘ maxOf (infNorm d) (bits 0x39b4_484b_feeb_c2a0))

@@ -13,7 +13,7 @@ use Rattle.vector.specs.Loops.{at}
 use Rattle.vector.specs.Points.{fromSliceOf, negationOf, allFiniteOf, differenceOf}
 use Rattle.vector.proofs.First.{point-laws}
 use Rattle.vector.specs.Ties.{ZeroFrom}
-use Rattle.protocol.specs.Protocol.{read_of}
+use Rattle.protocol.specs.Protocol.{readOf}
 use Rattle.objective.specs.declared.Differences.{Differences}
 use Rattle.objective.specs.Step as objective
 use Rattle.objective.specs.Follows as differences
@@ -31,7 +31,7 @@ use Rattle.linesearch_theory.proofs.Follows.{search-follows}
 use Rattle.quasinewton_record.specs.declared.Fixed.{Fixed}
 use Rattle.quasinewton_record.specs.declared.Descent.{Descent}
 use Rattle.quasinewton.specs.Step as step
-use Rattle.quasinewton.specs.Step.{firstDifferences, searching, searchFixed, zeros, stores_of, smallDecreaseOf, smallStepOf, Moved, storedOf, succeededOf, settled_of, probeOf, toldOf, toldGradientOf, start_of}
+use Rattle.quasinewton.specs.Step.{firstDifferences, searching, searchFixed, zeros, storesOf, smallDecreaseOf, smallStepOf, Moved, storedOf, succeededOf, settledOf, probeOf, toldOf, toldGradientOf, startOf}
 use Rattle.quasinewton_theory.specs.Follows.{wantsGradient, heardOf, Sixteen, DescentShaped, DescentZeroPast, GradientFollows}
 use Rattle.quasinewton_theory.proofs.FollowsEnds.{stored-sized}
 use Rattle.quasinewton_theory.proofs.FollowsAnswers.{follows}
@@ -45,11 +45,11 @@ zeros16 = length-replicate 16 plusZero
 zeros-zero : (n : ℕ) → ZeroFrom n zeros
 zeros-zero n k i j = get_or-replicate 16 k plusZero nan j
 
-start-zeros : (n : ℕ) (x : List Float) → ZeroFrom n x → DescentZeroPast n (start_of x)
-unfolding start_of
+start-zeros : (n : ℕ) (x : List Float) → ZeroFrom n x → DescentZeroPast n (startOf x)
+unfolding startOf
 start-zeros n x h =
     let none = zeros-zero n in
-    let diff = (differences-follow read_of).begun-zeros n zeros none in
+    let diff = (differences-follow readOf).begun-zeros n zeros none in
     record { point = h; gradient = none; direction = none; search = record { point = none; gradient = none; diff = diff }; diff = diff }
 
 module _ (fixed : Fixed) (small : fixed.n ≤ 16) where
@@ -61,8 +61,8 @@ module _ (fixed : Fixed) (small : fixed.n ≤ 16) where
   abbrev Sized : Search → Type 0
   Sized = searches.SearchShaped (searchFixed fixed)
 
-  searching-on : (l : Line) → searches.SearchFollows read_of (searchFixed fixed) l
-  searching-on l = search-follows read_of (searchFixed fixed) l
+  searching-on : (l : Line) → searches.SearchFollows readOf (searchFixed fixed) l
+  searching-on l = search-follows readOf (searchFixed fixed) l
 
   line16 : (l : Line) → Sixteen l.x → Sixteen l.g → searches.LineHas Sixteen l
   line16 l x g = record { point = x; gradient = g }
@@ -78,8 +78,8 @@ module _ (fixed : Fixed) (small : fixed.n ≤ 16) where
         search-begun = λ l a x g. (searching-on l).begun-shaped a small (line16 l x g);
         search-told = λ l s v x g h. (searching-on l).told-shaped s v v (line16 l x g) h;
         search-graded = λ l s g i x y h. (searching-on l).told-gradient-shaped s g i (line16 l x y) h;
-        diff-begun = λ x h. (differences-follow read_of).begun_sized n x small h;
-        diff-told = λ e v i h. (differences-follow read_of).told-sized n e v h i;
+        diff-begun = λ x h. (differences-follow readOf).begun-sized n x small h;
+        diff-told = λ e v i h. (differences-follow readOf).told-sized n e v h i;
         diff-gradient = λ e h. h.gradient16;
       }
 
@@ -108,8 +108,8 @@ module _ (fixed : Fixed) (small : fixed.n ≤ 16) where
         search-begun = λ l a x g. (sizes.search-begun l a x.0 g.0, (searching-on l).begun-zeros a (line-zeros l x g));
         search-told = λ l s v x g h. (sizes.search-told l s v x.0 g.0 h.0, (searching-on l).told-zeros s v v (line-zeros l x g) h.0 h.1);
         search-graded = λ l s g i x y h. (sizes.search-graded l s g i.0 x.0 y.0 h.0, (searching-on l).told-gradient-zeros s g i.1 (line-zeros l x y) h.0 h.1);
-        diff-begun = λ x h. (sizes.diff-begun x h.0, (differences-follow read_of).begun-zeros n x h.1);
-        diff-told = λ e v i h. (sizes.diff-told e v i h.0, (differences-follow read_of).told-zeros n e v i h.1);
+        diff-begun = λ x h. (sizes.diff-begun x h.0, (differences-follow readOf).begun-zeros n x h.1);
+        diff-told = λ e v i h. (sizes.diff-told e v i h.0, (differences-follow readOf).told-zeros n e v i h.1);
         diff-gradient = λ e h. (h.0.gradient16, h.1.gradient);
       }
 
@@ -141,8 +141,8 @@ module _ (fixed : Fixed) (small : fixed.n ≤ 16) where
 
   -- ---- the start
 
-  start-shaped : (x : List Float) → 1 ≤ n → Sixteen x → DescentShaped fixed (start_of x)
-  unfolding start_of objective.begunOf
+  start-shaped : (x : List Float) → 1 ≤ n → Sixteen x → DescentShaped fixed (startOf x)
+  unfolding startOf objective.begunOf
   start-shaped x some h =
       record {
         positive = some;
@@ -164,10 +164,10 @@ module _ (fixed : Fixed) (small : fixed.n ≤ 16) where
                     trials = zero-le;
                     point16 = zeros16;
                     gradient16 = zeros16;
-                    diff = (differences-follow read_of).begun_sized n zeros small zeros16;
+                    diff = (differences-follow readOf).begun-sized n zeros small zeros16;
                     asked = λ e. omega (arith, e);
                   };
-              diff = (differences-follow read_of).begun_sized n zeros small zeros16;
+              diff = (differences-follow readOf).begun-sized n zeros small zeros16;
             };
       }
 
@@ -197,16 +197,16 @@ module _ (fixed : Fixed) (small : fixed.n ≤ 16) where
   heard-shaped : (q : Descent) (w : List Float) → DescentShaped fixed q → DescentShaped fixed (heardOf fixed q w)
   heard-shaped q w z = go (wantsGradient fixed q)
     where
-      go : (b : Bool) → DescentShaped fixed (cond b (toldGradientOf fixed q (fromSliceOf w n)) (toldOf fixed q (read_of (get_or w 0 nan))))
+      go : (b : Bool) → DescentShaped fixed (cond b (toldGradientOf fixed q (fromSliceOf w n)) (toldOf fixed q (readOf (get_or w 0 nan))))
       go true = told-gradient-shaped q (fromSliceOf w n) (words16 w) z
-      go false = told-shaped q (read_of (get_or w 0 nan)) z
+      go false = told-shaped q (readOf (get_or w 0 nan)) z
 
   heard-zeros : (q : Descent) (w : List Float) → DescentShaped fixed q → DescentZeroPast n q → DescentZeroPast n (heardOf fixed q w)
   heard-zeros q w z h = go (wantsGradient fixed q)
     where
-      go : (b : Bool) → DescentZeroPast n (cond b (toldGradientOf fixed q (fromSliceOf w n)) (toldOf fixed q (read_of (get_or w 0 nan))))
+      go : (b : Bool) → DescentZeroPast n (cond b (toldGradientOf fixed q (fromSliceOf w n)) (toldOf fixed q (readOf (get_or w 0 nan))))
       go true = told-gradient-zeros q (fromSliceOf w n) (words16 w) (words-zero w) z h
-      go false = told-zeros q (read_of (get_or w 0 nan)) z h
+      go false = told-zeros q (readOf (get_or w 0 nan)) z h
 
   -- ---- the model
 
@@ -225,8 +225,8 @@ module _ (fixed : Fixed) (small : fixed.n ≤ 16) where
         both (not (allFiniteOf t.g n)) (record { models = h })
         (both (smallDecreaseOf o.ftol q.line.f t.trial.value) (record { models = k }) (both (smallStepOf o.xtol q.line.x t.x n) (record { models = k }) (record { models = k })))
 
-    settled-models : (q : Descent) (m : Model) (v : ℕ) → Q m → Q (storedOf fixed q m q.search.best) → Models (settled_of fixed q m v)
-    unfolding settled_of
+    settled-models : (q : Descent) (m : Model) (v : ℕ) → Q m → Q (storedOf fixed q m q.search.best) → Models (settledOf fixed q m v)
+    unfolding settledOf
     settled-models q m v h k =
         both (eqb q.phase step.atHead) (record { models = h })
         (both (not (eqb q.phase searching)) (record { models = h })
@@ -235,7 +235,7 @@ module _ (fixed : Fixed) (small : fixed.n ≤ 16) where
 
   stored-zeros : (q : Descent) (m : Model) (t : Evaluation) → hessian.ModelSized m → hessian.ModelZeroPast n m → hessian.ModelZeroPast n (storedOf fixed q m t)
   unfolding storedOf differenceOf
-  stored-zeros q m t z h = go (stores_of s y n)
+  stored-zeros q m t z h = go (storesOf s y n)
     where
       s : List Float
       s = differenceOf t.x q.line.x n
@@ -249,16 +249,16 @@ module _ (fixed : Fixed) (small : fixed.n ≤ 16) where
 
   -- ---- on through a head
 
-  settled-shaped : (q : Descent) (m : Model) (v : ℕ) → DescentShaped fixed q → hessian.ModelSized m → DescentShaped fixed (settled_of fixed q m v).descent × hessian.ModelSized (settled_of fixed q m v).model
+  settled-shaped : (q : Descent) (m : Model) (v : ℕ) → DescentShaped fixed q → hessian.ModelSized m → DescentShaped fixed (settledOf fixed q m v).descent × hessian.ModelSized (settledOf fixed q m v).model
   settled-shaped q m v z sized = (
-    shaped (settled_of fixed q m v).descent z.positive (settled-lasts fixed _ _ _ sizes q m v (lasting q z)),
+    shaped (settledOf fixed q m v).descent z.positive (settled-lasts fixed _ _ _ sizes q m v (lasting q z)),
     (settled-models hessian.ModelSized q m v sized (stored-sized fixed small q m q.search.best sized)).models,
   )
 
   settled-zeros : (q : Descent) (m : Model) (v : ℕ) → DescentShaped fixed q → hessian.ModelSized m → DescentZeroPast n q → hessian.ModelZeroPast n m
-      → DescentZeroPast n (settled_of fixed q m v).descent × hessian.ModelZeroPast n (settled_of fixed q m v).model
+      → DescentZeroPast n (settledOf fixed q m v).descent × hessian.ModelZeroPast n (settledOf fixed q m v).model
   settled-zeros q m v z sized h k = (
-    zeros-last (settled_of fixed q m v).descent (settled-lasts fixed _ _ _ sizes-and-zeros q m v (lasting-zeros q z h)),
+    zeros-last (settledOf fixed q m v).descent (settled-lasts fixed _ _ _ sizes-and-zeros q m v (lasting-zeros q z h)),
     (settled-models (hessian.ModelZeroPast n) q m v k (stored-zeros q m q.search.best sized k)).models,
   )
 
@@ -275,7 +275,7 @@ module _ (fixed : Fixed) (small : fixed.n ≤ 16) where
       (pick (not (eqb q.phase firstDifferences)) _ _ h.point (go (ltb q.diff.at n) refl))
     where
       go : (b : Bool) → ltb q.diff.at n ≡ b → ZeroFrom n (cond b (objective.probeOf q.diff) q.diff.x)
-      go true e = (differences-follow read_of).probe-zeros n q.diff (ltb-true q.diff.at n e) h.diff
+      go true e = (differences-follow readOf).probe-zeros n q.diff (ltb-true q.diff.at n e) h.diff
       go false e = h.diff.point
 
 pub gradient-follows : (fixed : Fixed) → GradientFollows fixed

@@ -13,7 +13,7 @@ use Rattle.vector.specs.Points.{fromSliceOf, allFiniteOf}
 use Rattle.vector.specs.Lists.{first}
 use Rattle.vector.proofs.First.{point-laws, ties}
 use Rattle.protocol.specs.declared.Kind.TheVariants.{Value, Gradient}
-use Rattle.protocol.specs.Protocol.{read_of}
+use Rattle.protocol.specs.Protocol.{readOf}
 use Rattle.protocol.specs.Ask.{Ask, finish, query, ◌>>=◌}
 use Rattle.protocol.specs.Rounds.{Ending, atHead, fails}
 use Rattle.objective.specs.declared.Differences.{Differences}
@@ -33,14 +33,14 @@ use Rattle.quasinewton_record.specs.declared.Descent.{Descent}
 use Rattle.quasinewton.specs.Step as step
 use Rattle.quasinewton.specs.Step.{firstValue, firstGradient, firstDifferences, searching, inPhase, refusedBy, withLine, withSearch, withDiff, valuedAt, searchFixed, gradedOf, differingOf, valuedOf, probeOf, asksOf, toldOf, toldGradientOf}
 use Rattle.quasinewton_theory.specs.Algorithm.{GradientPosition, concluded}
-use Rattle.quasinewton_theory.specs.Follows.{position_of, graded, valued, toDo, kind_of, heardOf, DescentShaped}
+use Rattle.quasinewton_theory.specs.Follows.{positionOf, graded, valued, toDo, kindOf, heardOf, DescentShaped}
 
 module _ (fixed : Fixed) (m : Model) where
   abbrev n : ℕ
   n = fixed.n
 
   abbrev at : Descent → GradientPosition
-  at q = position_of fixed q m
+  at q = positionOf fixed q m
 
   abbrev does : Descent → Ask (Ending GradientPosition)
   does q = toDo fixed q m
@@ -57,15 +57,15 @@ module _ (fixed : Fixed) (m : Model) where
       go false = refl
 
   -- the differences go on, or are done
-  differing-does : (q : Descent) (e : Differences) → e.at ≤ n → differences.toDo read_of n e >>= (λ g. finish (graded (at q) g)) ≡ does (differingOf fixed q e)
+  differing-does : (q : Descent) (e : Differences) → e.at ≤ n → differences.toDo readOf n e >>= (λ g. finish (graded (at q) g)) ≡ does (differingOf fixed q e)
   unfolding differingOf ◌>>=◌
   differing-does q e i = go (ltb e.at n) refl
     where
-      go : (b : Bool) → ltb e.at n ≡ b → differences.toDo read_of n e >>= (λ g. finish (graded (at q) g)) ≡ does (cond b (withDiff q firstDifferences e) (gradedOf fixed q e.g))
+      go : (b : Bool) → ltb e.at n ≡ b → differences.toDo readOf n e >>= (λ g. finish (graded (at q) g)) ≡ does (cond b (withDiff q firstDifferences e) (gradedOf fixed q e.g))
       go true j = refl
       go false j =
           let done : e.at ≡ n = omega (arith, ltb-false e.at n j) in
-          ap (λ (t : Ask (List Float)). t >>= (λ g. finish (graded (at q) g))) ((differences-follow read_of).ends n e done) ∙ graded-does q e.g
+          ap (λ (t : Ask (List Float)). t >>= (λ g. finish (graded (at q) g))) ((differences-follow readOf).ends n e done) ∙ graded-does q e.g
 
   valued-does : (q : Descent) (v : Float) → valued (at q) v ≡ does (valuedOf fixed q v)
   unfolding valuedOf objective.begunOf ◌>>=◌
@@ -78,23 +78,23 @@ module _ (fixed : Fixed) (m : Model) where
       x = first n q.line.x
 
       go : (b c : Bool)
-          → cond (not b) (finish (fails 18 0)) (cond c (query Gradient x (λ u. finish (first (length x) u))) (algorithm.differences read_of x) >>= λ g. finish (graded (at w) g))
+          → cond (not b) (finish (fails 18 0)) (cond c (query Gradient x (λ u. finish (first (length x) u))) (algorithm.differences readOf x) >>= λ g. finish (graded (at w) g))
           ≡ does (cond (not b) (refusedBy w (record { number = 18; detail = 0 })) (cond c w (differingOf fixed w (objective.begunOf q.line.x))))
       go false c = refl
       go true true = rw (point-laws.listed n q.line.x)
       go true false =
-          ap (λ (t : Ask (List Float)). t >>= (λ g. finish (graded (at w) g))) ((differences-follow read_of).begins n q.line.x)
+          ap (λ (t : Ask (List Float)). t >>= (λ g. finish (graded (at w) g))) ((differences-follow readOf).begins n q.line.x)
           ∙ differing-does w (objective.begunOf q.line.x) zero-le
 
   -- ---- the open question, by its phase
 
   -- the text goes on as the record does
   abbrev Follows : Descent → Type 0
-  Follows q = does q ≡ query (kind_of fixed q) (first n (probeOf fixed q)) (λ w. does (heardOf fixed q w))
+  Follows q = does q ≡ query (kindOf fixed q) (first n (probeOf fixed q)) (λ w. does (heardOf fixed q w))
 
   valuing : (q : Descent) (p : ℕ) → p ≡ firstValue → Follows (inPhase q p)
   unfolding probeOf toldOf ◌>>=◌
-  valuing q p e = rw e (ap (query Value (first n q.line.x)) (fun_ext (λ w. valued-does (inPhase q firstValue) (read_of (get_or w 0 nan)))))
+  valuing q p e = rw e (ap (query Value (first n q.line.x)) (fun_ext (λ w. valued-does (inPhase q firstValue) (readOf (get_or w 0 nan)))))
 
   grading : (q : Descent) (p : ℕ) → p ≡ firstGradient → Follows (inPhase q p)
   unfolding probeOf toldGradientOf
@@ -106,17 +106,17 @@ module _ (fixed : Fixed) (m : Model) where
   unfolding probeOf toldOf ◌>>=◌
   differing q p e z i =
       rw (e, lt-ltb _ _ i)
-      (ap (λ (t : Ask (List Float)). t >>= (λ g. finish (graded (at q) g))) ((differences-follow read_of).follows n q.diff z i)
+      (ap (λ (t : Ask (List Float)). t >>= (λ g. finish (graded (at q) g))) ((differences-follow readOf).follows n q.diff z i)
       ∙ ap (query Value (first n (objective.probeOf q.diff)))
-      (fun_ext (λ w. differing-does (inPhase q firstDifferences) (objective.toldOf q.diff (read_of (get_or w 0 nan))) (told-within n q.diff (read_of (get_or w 0 nan)) i))))
+      (fun_ext (λ w. differing-does (inPhase q firstDifferences) (objective.toldOf q.diff (readOf (get_or w 0 nan))) (told-within n q.diff (readOf (get_or w 0 nan)) i))))
 
   -- the search's own question, and its answer carried in
   pub in-search : (q : Descent) (p : ℕ) → p ≡ searching → searches.SearchShaped (searchFixed fixed) q.search → q.search.phase ≤ asksDifference → Follows (inPhase q p)
   unfolding probeOf toldOf toldGradientOf ◌>>=◌
   in-search q p e z i =
       rw e
-      (ap (λ (t : Ask WolfeResult). t >>= rest) ((search-follows read_of (searchFixed fixed) q.line).follows q.search z i)
-      ∙ ap (query (searches.kind_of q.search) (first n (linesearch.probeOf (searchFixed fixed) q.line q.search))) (fun_ext (λ w. go (eqb q.search.phase asksGradient) w)))
+      (ap (λ (t : Ask WolfeResult). t >>= rest) ((search-follows readOf (searchFixed fixed) q.line).follows q.search z i)
+      ∙ ap (query (searches.kindOf q.search) (first n (linesearch.probeOf (searchFixed fixed) q.line q.search))) (fun_ext (λ w. go (eqb q.search.phase asksGradient) w)))
     where
       rest : WolfeResult → Ask (Ending GradientPosition)
       rest r = finish (concluded (at q) (gives r))
@@ -127,11 +127,11 @@ module _ (fixed : Fixed) (m : Model) where
       graded-by : List Float → Search
       graded-by w = linesearch.toldGradientOf (searchFixed fixed) q.line q.search (fromSliceOf w n)
 
-      valued_by : List Float → Search
-      valued_by w = linesearch.toldOf (searchFixed fixed) q.line q.search (read_of (get_or w 0 nan)) (read_of (get_or w 0 nan))
+      valued-by : List Float → Search
+      valued-by w = linesearch.toldOf (searchFixed fixed) q.line q.search (readOf (get_or w 0 nan)) (readOf (get_or w 0 nan))
 
       go : (b : Bool) (w : List Float)
-          → searches.toDo read_of (searchFixed fixed) q.line (cond b (graded-by w) (valued_by w)) >>= rest ≡ does (cond b (withSearch now (graded-by w)) (withSearch now (valued_by w)))
+          → searches.toDo readOf (searchFixed fixed) q.line (cond b (graded-by w) (valued-by w)) >>= rest ≡ does (cond b (withSearch now (graded-by w)) (withSearch now (valued-by w)))
       go true w = refl
       go false w = refl
 
@@ -139,8 +139,8 @@ module _ (fixed : Fixed) (m : Model) where
   third p a b d e = omega arith
 
   -- a question of the opening
-  pub in_opening : (q : Descent) → DescentShaped fixed q → q.phase ≤ firstDifferences → Follows q
-  in_opening q z i = go (eqb q.phase firstValue) refl (eqb q.phase firstGradient) refl
+  pub in-opening : (q : Descent) → DescentShaped fixed q → q.phase ≤ firstDifferences → Follows q
+  in-opening q z i = go (eqb q.phase firstValue) refl (eqb q.phase firstGradient) refl
     where
       go : (b : Bool) → eqb q.phase firstValue ≡ b → (c : Bool) → eqb q.phase firstGradient ≡ c → Follows q
       go true e c f = valuing q q.phase (eqb-true q.phase firstValue e)
@@ -158,4 +158,4 @@ module _ (fixed : Fixed) (m : Model) where
 
       go : (b : Bool) → eqb q.phase searching ≡ b → Follows q
       go true e = in-search q q.phase (eqb-true q.phase searching e) z.parts.search (leb-true _ _ (by true e))
-      go false e = in_opening q z (leb-true _ _ (by false e))
+      go false e = in-opening q z (leb-true _ _ (by false e))

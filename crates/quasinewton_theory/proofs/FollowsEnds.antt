@@ -21,9 +21,9 @@ use Rattle.linesearch_trials.specs.declared.Evaluation.{Evaluation}
 use Rattle.linesearch_theory.specs.Follows as searches
 use Rattle.quasinewton_record.specs.declared.Fixed.{Fixed}
 use Rattle.quasinewton_record.specs.declared.Descent.{Descent}
-use Rattle.quasinewton.specs.Step.{byFunction, by_step, bySearch, byGradientFailed, stores_of, smallDecreaseOf, smallStepOf, inPhase, withLine, valuedAt, Moved, moved, lowerOf, missedOf, storedOf, steppedOf, succeededOf}
+use Rattle.quasinewton.specs.Step.{byFunction, byStep, bySearch, byGradientFailed, storesOf, smallDecreaseOf, smallStepOf, inPhase, withLine, valuedAt, Moved, moved, lowerOf, missedOf, storedOf, steppedOf, succeededOf}
 use Rattle.quasinewton_theory.specs.Algorithm.{GradientPosition, stored, stepped, smallDecrease, smallStep, stopsLower, succeeded}
-use Rattle.quasinewton_theory.specs.Follows.{position_of, toDo, settled, GradientAllows}
+use Rattle.quasinewton_theory.specs.Follows.{positionOf, toDo, settled, GradientAllows}
 use Rattle.quasinewton_theory.proofs.FollowsRound.{head-does}
 
 small-decrease-is : (tol before now : Float) → smallDecrease tol before now ≡ smallDecreaseOf tol before now
@@ -35,7 +35,7 @@ module _ (fixed : Fixed) (small : fixed.n ≤ 16) where
   n = fixed.n
 
   abbrev at : Descent → Model → GradientPosition
-  at = position_of fixed
+  at = positionOf fixed
 
   small-step-is : (tol : Float) (before now : List Float) → smallStep tol (first n before) (first n now) ≡ smallStepOf tol before now n
   unfolding smallStep smallStepOf
@@ -50,11 +50,11 @@ module _ (fixed : Fixed) (small : fixed.n ≤ 16) where
     abbrev y : List Float
     y = differenceOf t.g q.line.g n
 
-    stored_is : stored (hessian.readModel n m) (first n s) (first n y) ≡ hessian.readModel n (storedOf fixed q m t)
-    unfolding stored storedOf stores_of
-    stored_is =
+    stored-is : stored (hessian.readModel n m) (first n s) (first n y) ≡ hessian.readModel n (storedOf fixed q m t)
+    unfolding stored storedOf storesOf
+    stored-is =
         rw (← ties.inf-norm s n, ← ties.inf-norm y n, ← ties.dot-of s y n, ← (hessian-ties n small).update-of m s y sized)
-        (go (stores_of s y n))
+        (go (storesOf s y n))
       where
         go : (b : Bool) → cond b (hessian.readModel n (updateOf m s y n)) (hessian.readModel n m) ≡ hessian.readModel n (cond b (updateOf m s y n) m)
         go true = refl
@@ -62,7 +62,7 @@ module _ (fixed : Fixed) (small : fixed.n ≤ 16) where
 
     pub stored-sized : hessian.ModelSized (storedOf fixed q m t)
     unfolding storedOf differenceOf
-    stored-sized = go (stores_of s y n)
+    stored-sized = go (storesOf s y n)
       where
         go : (b : Bool) → hessian.ModelSized (cond b (updateOf m s y n) m)
         go true = (hessian-ties n small).update-sized m s y sized (point-laws.width _ n small) (point-laws.width _ n small)
@@ -70,7 +70,7 @@ module _ (fixed : Fixed) (small : fixed.n ≤ 16) where
 
     stepped-is : stepped (at q m) (searches.lowered n t) ≡ at (steppedOf q t) (storedOf fixed q m t)
     unfolding stepped steppedOf
-    stepped-is = rw (← ties.difference-of t.x q.line.x n, ← ties.difference-of t.g q.line.g n, stored_is)
+    stepped-is = rw (← ties.difference-of t.x q.line.x n, ← ties.difference-of t.g q.line.g n, stored-is)
 
   -- ---- from a search that has ended
   module _ (k : FitLimits) (v : ℕ) (allows : GradientAllows fixed k v) where
@@ -120,5 +120,5 @@ module _ (fixed : Fixed) (small : fixed.n ≤ 16) where
         rw (stepped-is q m t sized)
         (turn (ap not (sym (ties.all-finite t.g n))) (lower-settles byGradientFailed GradientFailed (λ u i. refl) q m t)
         (turn (small-decrease-is fixed.options.ftol q.line.f t.trial.value) (stopped byFunction FunctionTolerance (λ u i. refl) w h)
-        (turn (small-step-is fixed.options.xtol q.line.x t.x) (stopped by_step StepTolerance (λ u i. refl) w h)
+        (turn (small-step-is fixed.options.xtol q.line.x t.x) (stopped byStep StepTolerance (λ u i. refl) w h)
         (record { settles = head-does fixed h small (stored-sized q m t sized) w k v allows }))))

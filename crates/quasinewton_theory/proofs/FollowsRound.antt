@@ -15,11 +15,11 @@ use Rattle.vector.proofs.First.{point-laws, ties}
 use Rattle.protocol.specs.declared.WolfeOptions.{WolfeOptions}
 use Rattle.protocol.specs.declared.Refusal.{Refusal}
 use Rattle.protocol.specs.declared.Termination.TheVariants.{GradientTolerance, LineSearchFailed}
-use Rattle.protocol.specs.Protocol.{read_of, refusal, noRefusal}
+use Rattle.protocol.specs.Protocol.{readOf, refusal, noRefusal}
 use Rattle.protocol.specs.Claim.{Limit, limit, unlimited}
 use Rattle.protocol.specs.Ask.{Ask, finish, ◌>>=◌}
 use Rattle.protocol.specs.Rounds.{Ending, atHead, stops, goOn, stop, FitLimits, reached}
-use Rattle.protocol.proofs.Texts.{bind_assoc}
+use Rattle.protocol.proofs.Texts.{bind-assoc}
 use Rattle.quasinewton_model.specs.declared.Model.{Model}
 use Rattle.quasinewton_model_theory.specs.Algorithm.{one}
 use Rattle.quasinewton_model.specs.Step.{directionOf}
@@ -35,7 +35,7 @@ use Rattle.quasinewton_record.specs.declared.Descent.{Descent}
 use Rattle.quasinewton.specs.Step as step
 use Rattle.quasinewton.specs.Step.{byGradient, byIterations, byFevals, inPhase, refusedBy, searchFixed, initialStepOf, notDescendingOf, soughtOf, searchedOf, steepestOf, directedOf, headedOf}
 use Rattle.quasinewton_theory.specs.Algorithm.{GradientPosition, concluded, initialStep, searched, notDescending, directed, iterated, round}
-use Rattle.quasinewton_theory.specs.Follows.{position_of, toDo, allowed, headed, settled, AllowsFevals, GradientAllows}
+use Rattle.quasinewton_theory.specs.Follows.{positionOf, toDo, allowed, headed, settled, AllowsFevals, GradientAllows}
 
 -- ---- the tests of `strong_wolfe`
 
@@ -52,16 +52,16 @@ optionsBy a b c d e f =
     cond (not a) (refusal 5 1) (cond (not b) (refusal 5 1) (cond (not c) (refusal 5 2) (cond (not d) (refusal 5 2) (cond e (refusal 6 0) (cond (not f) (refusal 7 0) noRefusal)))))
 
 -- a refusal, or else the next
-abbrev or_else : Refusal → Refusal → Refusal
-or_else r rest = cond (not (eqb r.number 0)) r rest
+abbrev orElse : Refusal → Refusal → Refusal
+orElse r rest = cond (not (eqb r.number 0)) r rest
 
-options-then : (o : WolfeOptions) (rest : Refusal) → optionsThen o rest ≡ or_else (optionsRefusalOf o) rest
+options-then : (o : WolfeOptions) (rest : Refusal) → optionsThen o rest ≡ orElse (optionsRefusalOf o) rest
 unfolding optionsRefusalOf
 options-then o rest = go (lt plusZero o.c1) (lt o.c1 one) (lt o.c1 o.c2) (lt o.c2 one) (eqb o.evals 0) (positiveOf o.stepmax)
   where
     go : (a b c d e f : Bool)
         → cond (not (a && b)) (refusal 5 1) (cond (not (c && d)) (refusal 5 2) (cond e (refusal 6 0) (cond (not f) (refusal 7 0) rest)))
-        ≡ or_else (optionsBy a b c d e f) rest
+        ≡ orElse (optionsBy a b c d e f) rest
     go false b c d e f = refl
     go true false c d e f = refl
     go true true false d e f = refl
@@ -70,11 +70,11 @@ options-then o rest = go (lt plusZero o.c1) (lt o.c1 one) (lt o.c1 o.c2) (lt o.c
     go true true true true false false = refl
     go true true true true false true = refl
 
-counts-then : (n : ℕ) (rest : Refusal) → cond (eqb n 0) (refusal 9 0) rest ≡ or_else (countsRefusalOf n n n) rest
+counts-then : (n : ℕ) (rest : Refusal) → cond (eqb n 0) (refusal 9 0) rest ≡ orElse (countsRefusalOf n n n) rest
 unfolding countsRefusalOf
 counts-then n rest = rw (eq-eqb n n refl) (go (eqb n 0))
   where
-    go : (b : Bool) → cond b (refusal 9 0) rest ≡ or_else (cond b (refusal 9 0) noRefusal) rest
+    go : (b : Bool) → cond b (refusal 9 0) rest ≡ orElse (cond b (refusal 9 0) noRefusal) rest
     go true = refl
     go false = refl
 
@@ -103,16 +103,16 @@ module _ (fixed : Fixed) where
   abbrev n : ℕ
   n = fixed.n
 
-  refusal_is : (o : WolfeOptions) (x d : List Float) (f : Float) (g : List Float) (a : Float)
-      → wolfeRefusal o (first n x) (first n d) f (first n g) a ≡ or_else (optionsRefusalOf o) (or_else (countsRefusalOf n n n) (lineRefusalOf n (lineFromOf x d f g n) a))
+  refusal-is : (o : WolfeOptions) (x d : List Float) (f : Float) (g : List Float) (a : Float)
+      → wolfeRefusal o (first n x) (first n d) f (first n g) a ≡ orElse (optionsRefusalOf o) (orElse (countsRefusalOf n n n) (lineRefusalOf n (lineFromOf x d f g n) a))
   unfolding wolfeRefusal lineRefusalOf lineFromOf
-  refusal_is o x d f g a =
+  refusal-is o x d f g a =
       rw (point-laws.listed n x, point-laws.listed n d, point-laws.listed n g, eq-eqb n n refl, ← ties.all-finite x n, ← ties.all-finite d n, ← ties.all-finite g n, ← ties.dot-of g d n)
-      (ap (optionsThen o) (counts-then n (lineRefusalOf n (lineFromOf x d f g n) a)) ∙ options-then o (or_else (countsRefusalOf n n n) (lineRefusalOf n (lineFromOf x d f g n) a)))
+      (ap (optionsThen o) (counts-then n (lineRefusalOf n (lineFromOf x d f g n) a)) ∙ options-then o (orElse (countsRefusalOf n n n) (lineRefusalOf n (lineFromOf x d f g n) a)))
 
-  step_is : (b : Bool) (d : List Float) → initialStep b (first n d) ≡ initialStepOf b d n
+  step-is : (b : Bool) (d : List Float) → initialStep b (first n d) ≡ initialStepOf b d n
   unfolding initialStep initialStepOf
-  step_is b d = rw (ties.inf-norm d n)
+  step-is b d = rw (ties.inf-norm d n)
 
   line-is : (x d : List Float) (f : Float) (g : List Float) → lineFrom (first n x) (first n d) f (first n g) ≡ searches.loweredLine n (lineFromOf x d f g n)
   unfolding lineFromOf
@@ -121,7 +121,7 @@ module _ (fixed : Fixed) where
   -- ---- the search begins
   module _ (q : Descent) (m : Model) (d : List Float) where
     abbrev p : GradientPosition
-    p = position_of fixed q m
+    p = positionOf fixed q m
 
     abbrev a : Float
     a = initialStepOf q.first d n
@@ -131,15 +131,15 @@ module _ (fixed : Fixed) where
 
     -- the text's search
     abbrev along : Ask WolfeResult
-    along = search read_of fixed.options.gradients fixed.options.wolfe (lineFrom p.x (first n d) p.f p.g) a
+    along = search readOf fixed.options.gradients fixed.options.wolfe (lineFrom p.x (first n d) p.f p.g) a
 
     sought-does : (along >>= λ r. finish (gives r)) >>= (λ r. finish (concluded p r)) ≡ toDo fixed (soughtOf fixed q l a) m
     unfolding soughtOf lineFromOf ◌>>=◌
     sought-does =
-        let from : Line → Ask WolfeResult = λ (k : Line). search read_of fixed.options.gradients fixed.options.wolfe k a in
-        bind_assoc (from (lineFrom p.x (first n d) p.f p.g)) (λ r. finish (gives r)) (λ r. finish (concluded p r))
+        let from : Line → Ask WolfeResult = λ (k : Line). search readOf fixed.options.gradients fixed.options.wolfe k a in
+        bind-assoc (from (lineFrom p.x (first n d) p.f p.g)) (λ r. finish (gives r)) (λ r. finish (concluded p r))
         ∙ ap (λ (k : Line). from k >>= λ r. finish (concluded p (gives r))) (line-is q.line.x d q.line.f q.line.g)
-        ∙ ap (λ (t : Ask WolfeResult). t >>= λ r. finish (concluded p (gives r))) ((search-follows read_of (searchFixed fixed) l).begins a)
+        ∙ ap (λ (t : Ask WolfeResult). t >>= λ r. finish (concluded p (gives r))) ((search-follows readOf (searchFixed fixed) l).begins a)
 
     -- by what the tests say
     abbrev started : Refusal → Ask Searched
@@ -159,7 +159,7 @@ module _ (fixed : Fixed) where
         go false = refl
 
     started-is : (r s t : Refusal)
-        → startedOf (or_else r (or_else s t))
+        → startedOf (orElse r (orElse s t))
         ≡ cond (not (eqb r.number 0)) (refusedBy q r) (cond (not (eqb s.number 0)) (refusedBy q s) (cond (not (eqb t.number 0)) (refusedBy q t) (soughtOf fixed q l a)))
     started-is r s t = go (eqb r.number 0) refl (eqb s.number 0) refl
       where
@@ -177,8 +177,8 @@ module _ (fixed : Fixed) where
     unfolding searchedOf strongWolfe
     searched-does =
         let o = fixed.options.wolfe in
-        rw (step_is q.first d, refusal_is o q.line.x d q.line.f q.line.g a)
-        (started-does (or_else (optionsRefusalOf o) (or_else (countsRefusalOf n n n) (lineRefusalOf n l a)))
+        rw (step-is q.first d, refusal-is o q.line.x d q.line.f q.line.g a)
+        (started-does (orElse (optionsRefusalOf o) (orElse (countsRefusalOf n n n) (lineRefusalOf n l a)))
         ∙ ap (λ (w : Descent). toDo fixed w m) (started-is (optionsRefusalOf o) (countsRefusalOf n n n) (lineRefusalOf n l a)))
 
   -- ---- its direction
@@ -202,15 +202,15 @@ module _ (fixed : Fixed) where
     either-by {a} {d} {b} {c} h e {i} {j} {u} {w} x y = subst (λ (z : Bool). Does (cond (a || b) i j) (cond z u (cond c u w))) h (either a e x y)
 
     steepest-does : (q : Descent) → Does
-        (cond (notDescending (neg (dot (first n q.line.g) (first n q.line.g)))) (finish (stops LineSearchFailed (position_of fixed q m))) (searched (position_of fixed q m) (negation (first n q.line.g))))
+        (cond (notDescending (neg (dot (first n q.line.g) (first n q.line.g)))) (finish (stops LineSearchFailed (positionOf fixed q m))) (searched (positionOf fixed q m) (negation (first n q.line.g))))
         (steepestOf fixed q)
     unfolding steepestOf
     steepest-does q =
         choice (not-descending-is (neg (dot (first n q.line.g) (first n q.line.g))) ∙ ap (λ (s : Float). notDescendingOf (neg s)) (sym (ties.dot-of q.line.g q.line.g n)))
         (record { does = refl })
-        (record { does = ap (searched (position_of fixed q m)) (sym (ties.negation-of q.line.g n)) ∙ searched-does q m (negationOf q.line.g n) })
+        (record { does = ap (searched (positionOf fixed q m)) (sym (ties.negation-of q.line.g n)) ∙ searched-does q m (negationOf q.line.g n) })
 
-    directed-does : (q : Descent) (d : List Float) → Does (directed (position_of fixed q m) (first n d)) (directedOf fixed q d)
+    directed-does : (q : Descent) (d : List Float) → Does (directed (positionOf fixed q m) (first n d)) (directedOf fixed q d)
     unfolding directedOf
     directed-does q d =
         either-by (not-descending-is (dot (first n q.line.g) (first n d)) ∙ ap notDescendingOf (sym (ties.dot-of q.line.g d n))) (ap not (sym (ties.all-finite d n)))
@@ -219,7 +219,7 @@ module _ (fixed : Fixed) where
     -- ---- the head
     module _ (small : n ≤ 16) (sized : hessian.ModelSized m) (q : Descent) (k : FitLimits) (v : ℕ) (allows : GradientAllows fixed k v) where
       abbrev here : GradientPosition
-      here = position_of fixed q m
+      here = positionOf fixed q m
 
       abbrev way : List Float
       way = directionOf m q.line.g n
@@ -232,18 +232,18 @@ module _ (fixed : Fixed) where
       by-limits false true = refl
       by-limits false false = round-does
 
-      full_by : (z : Limit) → AllowsFevals z fixed.fevals v → reached v z ≡ leb fixed.fevals v
-      full_by (limit j) h = ap (λ (i : ℕ). leb i v) h
-      full_by unlimited h = sym (lt-leb _ _ h)
+      full-by : (z : Limit) → AllowsFevals z fixed.fevals v → reached v z ≡ leb fixed.fevals v
+      full-by (limit j) h = ap (λ (i : ℕ). leb i v) h
+      full-by unlimited h = sym (lt-leb _ _ h)
 
-      by_tests : (b : Bool)
+      by-tests : (b : Bool)
           → headed k v (cond b (stop GradientTolerance) goOn) here
           ≡ toDo fixed
           (cond b (inPhase q byGradient) (cond (leb fixed.iter q.rounds) (inPhase q byIterations) (cond (leb fixed.fevals v) (inPhase q byFevals) (directedOf fixed (step.iterated q) way))))
           m
-      by_tests true = refl
-      by_tests false = rw (allows.iter, full_by k.fevals allows.fevals) (by-limits (leb fixed.iter q.rounds) (leb fixed.fevals v))
+      by-tests true = refl
+      by-tests false = rw (allows.iter, full-by k.fevals allows.fevals) (by-limits (leb fixed.iter q.rounds) (leb fixed.fevals v))
 
       pub head-does : settled k v (finish (atHead here)) ≡ toDo fixed (headedOf fixed q m v) m
       unfolding headedOf
-      head-does = rw (← ties.inf-norm q.line.g n) (by_tests (le (infNormOf q.line.g n) fixed.options.gradtol))
+      head-does = rw (← ties.inf-norm q.line.g n) (by-tests (le (infNormOf q.line.g n) fixed.options.gradtol))

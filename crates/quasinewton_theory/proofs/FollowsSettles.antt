@@ -12,7 +12,7 @@ use lib.Ieee.{Float}
 use Rattle.vector.specs.Lists.{first}
 use Rattle.vector.proofs.First.{point-laws}
 use Rattle.protocol.specs.declared.SimplexOptions.{SimplexOptions}
-use Rattle.protocol.specs.Protocol.{read_of}
+use Rattle.protocol.specs.Protocol.{readOf}
 use Rattle.protocol.specs.Ask.{Ask, finish, query, ◌>>=◌}
 use Rattle.protocol.specs.Rounds.{Ending, atHead, stops, fails, Verdict, goOn, stop, restart, Rounds, FitLimits, reached}
 use Rattle.protocol.specs.Rounds as rounds
@@ -29,12 +29,12 @@ use Rattle.linesearch_theory.proofs.Follows.{search-follows}
 use Rattle.quasinewton_record.specs.declared.Fixed.{Fixed}
 use Rattle.quasinewton_record.specs.declared.Descent.{Descent}
 use Rattle.quasinewton.specs.Step as step
-use Rattle.quasinewton.specs.Step.{firstValue, firstGradient, firstDifferences, searching, byRefusal, inPhase, searchFixed, Moved, moved, missedOf, succeededOf, settled_of, asksOf, start_of}
+use Rattle.quasinewton.specs.Step.{firstValue, firstGradient, firstDifferences, searching, byRefusal, inPhase, searchFixed, Moved, moved, missedOf, succeededOf, settledOf, asksOf, startOf}
 use Rattle.quasinewton_theory.specs.Algorithm.{GradientPosition, concluded, tests, opened, quasiNewton}
-use Rattle.quasinewton_theory.specs.Follows.{position_of, reasonOf, endingOf, toDo, allowed, headed, settled, GradientSettlesAsFits, GradientAllows, DescentShaped, DescentStands}
+use Rattle.quasinewton_theory.specs.Follows.{positionOf, reasonOf, endingOf, toDo, allowed, headed, settled, GradientSettlesAsFits, GradientAllows, DescentShaped, DescentStands}
 use Rattle.quasinewton_theory.proofs.FollowsRound.{head-does}
 use Rattle.quasinewton_theory.proofs.FollowsEnds.{missed-settles, succeeded-settles}
-use Rattle.quasinewton_theory.proofs.FollowsAnswers.{in-search, in_opening}
+use Rattle.quasinewton_theory.proofs.FollowsAnswers.{in-search, in-opening}
 
 -- ---- texts go on as protocol has it
 
@@ -64,8 +64,8 @@ module _ (fixed : Fixed) where
 
   -- ---- the start
 
-  pub starts : (limited : Bool) (x : List Float) → n ≤ 16 → toDo fixed (start_of x) (newModelOf limited fixed.options.memory n) ≡ opened limited fixed.options (first n x)
-  unfolding start_of ◌>>=◌
+  pub starts : (limited : Bool) (x : List Float) → n ≤ 16 → toDo fixed (startOf x) (newModelOf limited fixed.options.memory n) ≡ opened limited fixed.options (first n x)
+  unfolding startOf ◌>>=◌
   starts limited x small = rw ((hessian-ties n small).new-of limited fixed.options.memory, point-laws.listed n x)
 
   -- ---- a fit that has ended
@@ -97,12 +97,12 @@ module _ (fixed : Fixed) where
     abbrev goes : Moved → Ask (Ending GradientPosition)
     goes w = toDo fixed w.descent w.model
 
-    from-head : (q : Descent) (p : ℕ) → p ≡ step.atHead → n ≤ 16 → settled k v (toDo fixed (inPhase q p) m) ≡ goes (settled_of fixed (inPhase q p) m v)
-    unfolding settled_of
+    from-head : (q : Descent) (p : ℕ) → p ≡ step.atHead → n ≤ 16 → settled k v (toDo fixed (inPhase q p) m) ≡ goes (settledOf fixed (inPhase q p) m v)
+    unfolding settledOf
     from-head q p e small = rw e (head-does fixed m small sized (inPhase q step.atHead) k v allows)
 
-    from-search : (q : Descent) (p : ℕ) → p ≡ searching → n ≤ 16 → searches.SearchShaped (searchFixed fixed) q.search → settled k v (toDo fixed (inPhase q p) m) ≡ goes (settled_of fixed (inPhase q p) m v)
-    unfolding settled_of ◌>>=◌
+    from-search : (q : Descent) (p : ℕ) → p ≡ searching → n ≤ 16 → searches.SearchShaped (searchFixed fixed) q.search → settled k v (toDo fixed (inPhase q p) m) ≡ goes (settledOf fixed (inPhase q p) m v)
+    unfolding settledOf ◌>>=◌
     from-search q p e small z = rw e (go (eqb s.phase found) refl (eqb s.phase failed) refl)
       where
         s : Search
@@ -112,19 +112,19 @@ module _ (fixed : Fixed) where
         now = inPhase q searching
 
         rest : WolfeResult → Ask (Ending GradientPosition)
-        rest r = finish (concluded (position_of fixed q m) (gives r))
+        rest r = finish (concluded (positionOf fixed q m) (gives r))
 
-        still : s.phase ≤ asksDifference → settled k v (searches.toDo read_of (searchFixed fixed) q.line s >>= rest) ≡ toDo fixed now m
+        still : s.phase ≤ asksDifference → settled k v (searches.toDo readOf (searchFixed fixed) q.line s >>= rest) ≡ toDo fixed now m
         still i = ap (settled k v) (in-search fixed m q searching refl z i) ∙ sym (in-search fixed m q searching refl z i)
 
         go : (b : Bool) → eqb s.phase found ≡ b → (c : Bool) → eqb s.phase failed ≡ c
-            → settled k v (searches.toDo read_of (searchFixed fixed) q.line s >>= rest)
+            → settled k v (searches.toDo readOf (searchFixed fixed) q.line s >>= rest)
             ≡ goes (cond b (succeededOf fixed now m s.best v) (cond c (moved (missedOf now s.best) m) (moved now m)))
         go true i c j =
-            ap (λ (t : Ask WolfeResult). settled k v (t >>= rest)) ((search-follows read_of (searchFixed fixed) q.line).ends_found s (eqb-true _ _ i))
+            ap (λ (t : Ask WolfeResult). settled k v (t >>= rest)) ((search-follows readOf (searchFixed fixed) q.line).ends-found s (eqb-true _ _ i))
             ∙ (succeeded-settles fixed small k v allows now m s.best sized).settles
         go false i true j =
-            ap (λ (t : Ask WolfeResult). settled k v (t >>= rest)) ((search-follows read_of (searchFixed fixed) q.line).ends-failed s (eqb-true _ _ j))
+            ap (λ (t : Ask WolfeResult). settled k v (t >>= rest)) ((search-follows readOf (searchFixed fixed) q.line).ends-failed s (eqb-true _ _ j))
             ∙ (missed-settles fixed small k v allows now m s.best).settles
         go false i false j = still (omega (arith, z.most, eqb-false s.phase found i, eqb-false s.phase failed j))
 
@@ -133,7 +133,7 @@ module _ (fixed : Fixed) where
     ending-stays q = go (eqb q.phase byRefusal)
       where
         by : Bool → Ask (Ending GradientPosition)
-        by b = finish (cond b (fails q.number q.detail) (stops (reasonOf q.phase) (position_of fixed q m)))
+        by b = finish (cond b (fails q.number q.detail) (stops (reasonOf q.phase) (positionOf fixed q m)))
 
         go : (b : Bool) → settled k v (by b) ≡ by b
         go true = refl
@@ -145,19 +145,19 @@ module _ (fixed : Fixed) where
         go : (b : Bool) → leb q.phase firstDifferences ≡ b → settled k v (toDo fixed q m) ≡ toDo fixed q m
         go true h =
             let i = leb-true q.phase firstDifferences h in
-            ap (settled k v) (in_opening fixed m q z i) ∙ sym (in_opening fixed m q z i)
+            ap (settled k v) (in-opening fixed m q z i) ∙ sym (in-opening fixed m q z i)
         go false h =
             let i = ended-does q m (leb-false q.phase firstDifferences h) f e in
             ap (settled k v) i ∙ ending-stays q ∙ sym i
 
-    stays : (q : Descent) → eqb q.phase step.atHead ≡ false → eqb q.phase searching ≡ false → settled_of fixed q m v ≡ moved q m
-    unfolding settled_of
+    stays : (q : Descent) → eqb q.phase step.atHead ≡ false → eqb q.phase searching ≡ false → settledOf fixed q m v ≡ moved q m
+    unfolding settledOf
     stays q e f = rw (e, f)
 
-    pub settles : (q : Descent) → DescentShaped fixed q → settled k v (toDo fixed q m) ≡ goes (settled_of fixed q m v)
+    pub settles : (q : Descent) → DescentShaped fixed q → settled k v (toDo fixed q m) ≡ goes (settledOf fixed q m v)
     settles q z = go (eqb q.phase step.atHead) refl (eqb q.phase searching) refl
       where
-        go : (b : Bool) → eqb q.phase step.atHead ≡ b → (c : Bool) → eqb q.phase searching ≡ c → settled k v (toDo fixed q m) ≡ goes (settled_of fixed q m v)
+        go : (b : Bool) → eqb q.phase step.atHead ≡ b → (c : Bool) → eqb q.phase searching ≡ c → settled k v (toDo fixed q m) ≡ goes (settledOf fixed q m v)
         go true e c f = from-head q q.phase (eqb-true _ _ e) z.small
         go false e true f = from-search q q.phase (eqb-true _ _ f) z.small z.parts.search
         go false e false f = elsewhere q z e f ∙ ap goes (sym (stays q e f))

@@ -24,7 +24,7 @@ use Rattle.linesearch.specs.Step as linesearch
 use Rattle.quasinewton_record.specs.declared.Fixed.{Fixed}
 use Rattle.quasinewton_record.specs.declared.Descent.{Descent}
 use Rattle.quasinewton.specs.Step as step
-use Rattle.quasinewton.specs.Step.{firstValue, firstGradient, firstDifferences, searching, byGradient, byFunction, by_step, byIterations, byFevals, bySearch, byGradientFailed, byRefusal, smallDecreaseOf, smallStepOf, initialStepOf, notDescendingOf, inPhase, refusedBy, withLine, withSearch, withDiff, valuedAt, searchFixed, soughtOf, searchedOf, steepestOf, directedOf, headedOf, lowerOf, missedOf, steppedOf, Moved, storedOf, succeededOf, settled_of, gradedOf, differingOf, valuedOf, toldOf, toldGradientOf}
+use Rattle.quasinewton.specs.Step.{firstValue, firstGradient, firstDifferences, searching, byGradient, byFunction, byStep, byIterations, byFevals, bySearch, byGradientFailed, byRefusal, smallDecreaseOf, smallStepOf, initialStepOf, notDescendingOf, inPhase, refusedBy, withLine, withSearch, withDiff, valuedAt, searchFixed, soughtOf, searchedOf, steepestOf, directedOf, headedOf, lowerOf, missedOf, steppedOf, Moved, storedOf, succeededOf, settledOf, gradedOf, differingOf, valuedOf, toldOf, toldGradientOf}
 use Rattle.quasinewton_theory.specs.Follows.{EveryPart}
 
 -- what lasts, where P is of the line's arrays, S of the search and D of the differences
@@ -217,11 +217,11 @@ module _ (fixed : Fixed) (P : List Float → Type 0) (S : Search → Type 0) (D 
       let w = stepped-lasts q t x g h in
       both-moved (not (allFiniteOf t.g n)) (record { lasts = lower-lasts q byGradientFailed t (omega arith) (omega arith) x h })
       (both-moved (smallDecreaseOf o.ftol q.line.f t.trial.value) (record { lasts = past (steppedOf q t) byFunction (omega arith) (omega arith) w })
-      (both-moved (smallStepOf o.xtol q.line.x t.x n) (record { lasts = past (steppedOf q t) by_step (omega arith) (omega arith) w })
+      (both-moved (smallStepOf o.xtol q.line.x t.x n) (record { lasts = past (steppedOf q t) byStep (omega arith) (omega arith) w })
       (record { lasts = headed-lasts (steppedOf q t) (storedOf fixed q m t) v w })))
 
-  settled-moved : (q : Descent) (m : Model) (v : ℕ) → Last q → LastMoved (settled_of fixed q m v)
-  unfolding settled_of
+  settled-moved : (q : Descent) (m : Model) (v : ℕ) → Last q → LastMoved (settledOf fixed q m v)
+  unfolding settledOf
   settled-moved q m v h =
       let t = q.search.best in
       let x = makes.best-point q.search h.parts.search in
@@ -231,5 +231,5 @@ module _ (fixed : Fixed) (P : List Float → Type 0) (S : Search → Type 0) (D 
       (both-moved (eqb q.search.phase linesearch.found) (succeeded-lasts q m t v x g h)
       (both-moved (eqb q.search.phase linesearch.failed) (record { lasts = missed-lasts q t x h }) (record { lasts = h }))))
 
-  pub settled-lasts : (q : Descent) (m : Model) (v : ℕ) → Last q → Last (settled_of fixed q m v).descent
+  pub settled-lasts : (q : Descent) (m : Model) (v : ℕ) → Last q → Last (settledOf fixed q m v).descent
   settled-lasts q m v h = (settled-moved q m v h).lasts

@@ -10,7 +10,7 @@ use lib.Ieee.{Float, neg, lt, le}
 use Rattle.float.specs.Binary64.{plusZero}
 use Rattle.vector.specs.Points.{dotOf, negationOf, infNormOf, allFiniteOf}
 use Rattle.protocol.specs.declared.Refusal.{Refusal}
-use Rattle.protocol.specs.Protocol.{read_of}
+use Rattle.protocol.specs.Protocol.{readOf}
 use Rattle.quasinewton_model.specs.declared.Model.{Model}
 use Rattle.quasinewton_model.specs.Step.{directionOf}
 use Rattle.linesearch_trials.specs.declared.Evaluation.{Evaluation}
@@ -21,12 +21,12 @@ use Rattle.linesearch_theory.proofs.Follows.{search-follows}
 use Rattle.quasinewton_record.specs.declared.Fixed.{Fixed}
 use Rattle.quasinewton_record.specs.declared.Descent.{Descent}
 use Rattle.quasinewton.specs.Step as step
-use Rattle.quasinewton.specs.Step.{searching, byGradient, byFunction, by_step, byIterations, byFevals, bySearch, byGradientFailed, byRefusal, smallDecreaseOf, smallStepOf, initialStepOf, notDescendingOf, inPhase, refusedBy, withLine, valuedAt, searchFixed, Moved, moved, soughtOf, searchedOf, steepestOf, directedOf, headedOf, lowerOf, missedOf, steppedOf, storedOf, succeededOf, settled_of, start_of}
+use Rattle.quasinewton.specs.Step.{searching, byGradient, byFunction, byStep, byIterations, byFevals, bySearch, byGradientFailed, byRefusal, smallDecreaseOf, smallStepOf, initialStepOf, notDescendingOf, inPhase, refusedBy, withLine, valuedAt, searchFixed, Moved, moved, soughtOf, searchedOf, steepestOf, directedOf, headedOf, lowerOf, missedOf, steppedOf, storedOf, succeededOf, settledOf, startOf}
 use Rattle.quasinewton_theory.specs.Follows.{DescentShaped, DescentStands}
 use Rattle.quasinewton_theory.proofs.FollowsRound.{options-allow}
 
-pub start-stands : (x : List Float) → DescentStands (start_of x)
-unfolding start_of
+pub start-stands : (x : List Float) → DescentStands (startOf x)
+unfolding startOf
 start-stands x = record { most = omega arith; asking = λ e. omega (arith, e) }
 
 both : (b : Bool) {u w : Descent} → DescentStands u → DescentStands w → DescentStands (cond b u w)
@@ -49,7 +49,7 @@ module _ (fixed : Fixed) where
   unfolding soughtOf
   sought-stands q l a h =
       let some : 0 < fixed.options.wolfe.evals = omega (arith, eqb-false fixed.options.wolfe.evals 0 (options-allow fixed.options.wolfe h)) in
-      record { most = omega arith; asking = λ e. omega (arith, (search-follows read_of (searchFixed fixed) l).begun-asks a some) }
+      record { most = omega arith; asking = λ e. omega (arith, (search-follows readOf (searchFixed fixed) l).begun-asks a some) }
 
   searched-stands : (q : Descent) (d : List Float) → DescentStands (searchedOf fixed q d)
   unfolding searchedOf
@@ -114,10 +114,10 @@ module _ (fixed : Fixed) where
       let w = steppedOf q t in
       both-moved (not (allFiniteOf t.g n)) (record { stands = lower-stands q byGradientFailed t (omega arith) (omega arith) })
       (both-moved (smallDecreaseOf o.ftol q.line.f t.trial.value) (record { stands = over w byFunction (omega arith) (omega arith) })
-      (both-moved (smallStepOf o.xtol q.line.x t.x n) (record { stands = over w by_step (omega arith) (omega arith) }) (record { stands = headed-stands w (storedOf fixed q m t) v })))
+      (both-moved (smallStepOf o.xtol q.line.x t.x n) (record { stands = over w byStep (omega arith) (omega arith) }) (record { stands = headed-stands w (storedOf fixed q m t) v })))
 
-  pub settled-stands : (q : Descent) (m : Model) (v : ℕ) → DescentShaped fixed q → DescentStands (settled_of fixed q m v).descent
-  unfolding settled_of
+  pub settled-stands : (q : Descent) (m : Model) (v : ℕ) → DescentShaped fixed q → DescentStands (settledOf fixed q m v).descent
+  unfolding settledOf
   settled-stands q m v z = (go (eqb q.phase step.atHead) refl (eqb q.phase searching) refl (eqb q.search.phase linesearch.found) refl (eqb q.search.phase linesearch.failed) refl).stands
     where
       t : Evaluation

@@ -13,20 +13,20 @@ use borrow.Author.Tests.{not-false}
 use Rattle.float.specs.Binary64.{NotAbove, plusZero}
 use Rattle.float.specs.Values.{finiteOf, toleranceOf}
 use Rattle.float.proofs.Order.{le→not-above}
-use Rattle.float.proofs.Tests.{by_cond}
+use Rattle.float.proofs.Tests.{by-cond}
 use Rattle.vector.specs.Lists.{dot, infNorm, allFinite, difference, negation}
 use Rattle.vector.proofs.First.{zip-long}
 use Rattle.protocol.specs.declared.GradientOptions.{GradientOptions}
 use Rattle.protocol.specs.declared.Termination.{Termination}
 use Rattle.protocol.specs.declared.Termination.TheVariants.{GradientTolerance, LineSearchFailed, GradientFailed}
-use Rattle.protocol.specs.Protocol.{read_of}
+use Rattle.protocol.specs.Protocol.{readOf}
 use Rattle.protocol.specs.Dialogue.{Exchange, F64s}
 use Rattle.protocol.specs.Calls.{endsFit, FirstRefusal, SearchRefusal}
 use Rattle.protocol.specs.Ask.{Ask, finish, askValue, ◌>>=◌, wp, Grows}
 use Rattle.protocol.specs.Rounds.{Ending, atHead, stops, fails, Verdict, goOn, stop, restart}
 use Rattle.protocol.specs.RoundsLaws.{Known, Own, Begins, EndsAs, OpensAs, Opening}
 use Rattle.protocol.proofs.Texts.{wp-bind, wp-map, wp-grows}
-use Rattle.protocol.proofs.Replies.{true-T, and_right, not-above-self}
+use Rattle.protocol.proofs.Replies.{true-T, and-right, not-above-self}
 use Rattle.protocol.proofs.Verdicts.{stop≢restart, go-on≢restart, go-on≢stop, stop-inj}
 use Rattle.objective.specs.Algorithm.{evalGradient}
 use Rattle.quasinewton_model_theory.specs.Algorithm.{one, InvHessian, direction, update, newHessian}
@@ -52,13 +52,13 @@ Least s = ⊥
 abbrev At : Start → List Exchange → GradientPosition → Type 0
 At s es p = GradientAtHead es p
 
-or_left : (a b : Bool) → a || b ≡ false → a ≡ false
-or_left true b e = absurd (true≢false e)
-or_left false b e = refl
+or-left : (a b : Bool) → a || b ≡ false → a ≡ false
+or-left true b e = absurd (true≢false e)
+or-left false b e = refl
 
-or_right : (a b : Bool) → a || b ≡ false → b ≡ false
-or_right true b e = absurd (true≢false e)
-or_right false b e = e
+or-right : (a b : Bool) → a || b ≡ false → b ≡ false
+or-right true b e = absurd (true≢false e)
+or-right false b e = e
 
 -- ---- how a round ends
 
@@ -120,17 +120,17 @@ module _ (es : List Exchange) (p : GradientPosition) (d : List Float) (a : Gradi
     succeeded-ok : RoundEnds p fs (succeeded p t)
     unfolding stepped
     succeeded-ok =
-        by_cond (RoundEnds p fs) (not (allFinite t.g)) _ _ (λ i. stops-lower GradientFailed (lt t.trial.value p.f) (λ n. n) (true-T (lt t.trial.value p.f)))
-        (λ i. by_cond (RoundEnds p fs) (smallDecrease p.options.ftol p.f t.trial.value) _ _ (λ j. (lower.0, lower.1, (λ n. n), λ n. absurd n))
-        (λ j. by_cond (RoundEnds p fs) (smallStep p.options.xtol p.x t.x) _ _ (λ k. (lower.0, lower.1, (λ n. n), λ n. absurd n))
+        by-cond (RoundEnds p fs) (not (allFinite t.g)) _ _ (λ i. stops-lower GradientFailed (lt t.trial.value p.f) (λ n. n) (true-T (lt t.trial.value p.f)))
+        (λ i. by-cond (RoundEnds p fs) (smallDecrease p.options.ftol p.f t.trial.value) _ _ (λ j. (lower.0, lower.1, (λ n. n), λ n. absurd n))
+        (λ j. by-cond (RoundEnds p fs) (smallStep p.options.xtol p.x t.x) _ _ (λ k. (lower.0, lower.1, (λ n. n), λ n. absurd n))
         (λ k. (stepped-head (not-false (allFinite t.g) i), lower.1))))
 
   concluded-ok : (fs : List Exchange) (r : WolfeResult) → Found es p d a s fs r.at → RoundEnds p fs (concluded p (gives r))
   concluded-ok fs r h =
-      by_cond (RoundEnds p fs) r.success _ _ (λ i. succeeded-ok fs r.at h)
+      by-cond (RoundEnds p fs) r.success _ _ (λ i. succeeded-ok fs r.at h)
       (λ i.
       let less = lt r.at.trial.value p.f in
-      stops-lower fs r.at h LineSearchFailed (lt plusZero r.at.trial.step && less) (λ n. n) (λ j. true-T less (and_right (lt plusZero r.at.trial.step) less j)))
+      stops-lower fs r.at h LineSearchFailed (lt plusZero r.at.trial.step && less) (λ n. n) (λ j. true-T less (and-right (lt plusZero r.at.trial.step) less j)))
 
   searched-ok : wp es (searched p d) (RoundEnds p)
   searched-ok =
@@ -142,7 +142,7 @@ module _ (es : List Exchange) (p : GradientPosition) (d : List Float) (a : Gradi
   searched-begins : Begins (searched p d)
   searched-begins =
       searched-case es p d a s Begins (λ k e r. tt)
-      (λ some e. search-laws.begins read_of p.options.gradients p.options.wolfe _ (initialStep p.first d) (λ r. finish (concluded p (gives r))) some)
+      (λ some e. search-laws.begins readOf p.options.gradients p.options.wolfe _ (initialStep p.first d) (λ r. finish (concluded p (gives r))) some)
 
 -- ---- a round
 
@@ -159,7 +159,7 @@ iterated-head es p a =
 
 steepest : (g : List Float) → notDescending (neg (dot g g)) ≡ false → le plusZero (dot g (negation g)) ≡ false
 unfolding notDescending
-steepest g e = steepest-descends g (or_left (le plusZero (neg (dot g g))) (not (finiteOf (neg (dot g g)))) e)
+steepest g e = steepest-descends g (or-left (le plusZero (neg (dot g g))) (not (finiteOf (neg (dot g g)))) e)
 
 -- what holds of a stop, and of each search along a direction that may be searched along, holds of the round
 round-case : (P : Ask (Ending GradientPosition) → Type 0) (es : List Exchange) (p : GradientPosition) → GradientAtHead es p → P (finish (stops LineSearchFailed (iterated p)))
@@ -167,8 +167,8 @@ round-case : (P : Ask (Ending GradientPosition) → Type 0) (es : List Exchange)
 unfolding notDescending
 round-case P es p a h k =
     let d = direction p.hess p.g in
-    by_cond P (notDescending (dot p.g d) || not (allFinite d)) _ _
-    (λ i. by_cond P (notDescending (neg (dot p.g p.g))) _ _ (λ j. h)
+    by-cond P (notDescending (dot p.g d) || not (allFinite d)) _ _
+    (λ i. by-cond P (notDescending (neg (dot p.g p.g))) _ _ (λ j. h)
     (λ j. k _ (record {
       long = negation-long (length p.x) p.g a.gradient-long;
       finite = negation-finite p.g ∙ a.gradient-finite;
@@ -177,9 +177,9 @@ round-case P es p a h k =
     })))
     (λ i. k _ (record {
       long = directions.long (length p.x) p.hess p.g a.shaped a.gradient-long;
-      finite = not-false (allFinite d) (or_right (notDescending (dot p.g d)) (not (allFinite d)) i);
+      finite = not-false (allFinite d) (or-right (notDescending (dot p.g d)) (not (allFinite d)) i);
       f64s = directions.f64s p.hess p.g;
-      slope = or_left (le plusZero (dot p.g d)) (not (finiteOf (dot p.g d))) (or_left (notDescending (dot p.g d)) (not (allFinite d)) i);
+      slope = or-left (le plusZero (dot p.g d)) (not (finiteOf (dot p.g d))) (or-left (notDescending (dot p.g d)) (not (allFinite d)) i);
     }))
 
 -- counting the iteration changes neither point nor value
@@ -213,16 +213,16 @@ opened-case : (Q : List Exchange → Ending GradientPosition → Type 0) (limits
     → ((fs : List Exchange) (v : Float) (g : List Float) → ValueTold fs x v → F64s g → length g ≡ length x → allFinite g ≡ true → Q fs (atHead (begun limits o x v g)))
     → wp [] (opened limits o x) Q
 opened-case Q limits o x q18 q19 q =
-    wp-bind [] (askValue read_of x) (withValue limits o x) Q
-    (wp-map [] (askValue read_of x) (Heard x) (λ fs v. wp fs (withValue limits o x v) Q)
-    (λ fs v h. by_cond (λ m. wp fs m Q) (not (finiteOf v)) _ _ (λ i. q18 fs)
+    wp-bind [] (askValue readOf x) (withValue limits o x) Q
+    (wp-map [] (askValue readOf x) (Heard x) (λ fs v. wp fs (withValue limits o x v) Q)
+    (λ fs v h. by-cond (λ m. wp fs m Q) (not (finiteOf v)) _ _ (λ i. q18 fs)
     (λ i.
-    let m = evalGradient read_of o.gradients x in
+    let m = evalGradient readOf o.gradients x in
     let told = heard-finite fs x v h (true-T (finiteOf v) (not-false (finiteOf v) i)) in
     wp-bind fs m (λ g. finish (withGradient limits o x v g)) Q
     (wp-map fs m (λ gs g. Grows fs gs × (F64s g × (length g ≡ length x))) (λ gs g. Q gs (withGradient limits o x v g))
-    (λ gs g k. by_cond (Q gs) (not (allFinite g)) _ _ (λ j. q19 gs) (λ j. q gs v g (told-grows fs gs x v k.0 told) k.1.0 k.1.1 (not-false (allFinite g) j)))
-    (wp-grows fs m _ (wp-both fs m (λ gs g. F64s g) (λ gs g. length g ≡ length x) (search-laws.evaluations.gradient-f64s read_of o.gradients x fs) (gradient-long read_of o.gradients x fs))))))
+    (λ gs g k. by-cond (Q gs) (not (allFinite g)) _ _ (λ j. q19 gs) (λ j. q gs v g (told-grows fs gs x v k.0 told) k.1.0 k.1.1 (not-false (allFinite g) j)))
+    (wp-grows fs m _ (wp-both fs m (λ gs g. F64s g) (λ gs g. length g ≡ length x) (search-laws.evaluations.gradient-f64s readOf o.gradients x fs) (gradient-long readOf o.gradients x fs))))))
     (search-laws.evaluations.value-heard x []))
 
 -- what holds of a refusal, and of the opening that asks, holds of the opening
@@ -259,8 +259,8 @@ opens s es (atHead p) h = h
 opens s es (stops y p) h = absurd h
 opens s es (fails k d) h = first-ends-fit k d h
 
-asks-first : (s : Start) (x : List Float) (f : Float → Ask (Ending GradientPosition)) → wp [] (askValue read_of x >>= f) (OpensAs quasiNewton Least At s)
-    → Opening quasiNewton Least At s (askValue read_of x >>= f)
+asks-first : (s : Start) (x : List Float) (f : Float → Ask (Ending GradientPosition)) → wp [] (askValue readOf x >>= f) (OpensAs quasiNewton Least At s)
+    → Opening quasiNewton Least At s (askValue readOf x >>= f)
 unfolding ◌>>=◌
 asks-first s x f h = h
 
@@ -302,13 +302,13 @@ heads = record { opening-ends = opening-ends; round-begins = round-begins; round
 
 -- ---- refusals
 
-fails_by : (P : ℕ → ℕ → Type 0) → ((k d : ℕ) → SearchRefusal k d → P k d) → (p : GradientPosition) (es : List Exchange) (e : Ending GradientPosition) → RoundEnds p es e → FailsBy P es e
-fails_by P f p es (atHead q) h = tt
-fails_by P f p es (stops y q) h = tt
-fails_by P f p es (fails k d) h = f k d h
+fails-by : (P : ℕ → ℕ → Type 0) → ((k d : ℕ) → SearchRefusal k d → P k d) → (p : GradientPosition) (es : List Exchange) (e : Ending GradientPosition) → RoundEnds p es e → FailsBy P es e
+fails-by P f p es (atHead q) h = tt
+fails-by P f p es (stops y q) h = tt
+fails-by P f p es (fails k d) h = f k d h
 
 in-rounds : (P : ℕ → ℕ → Type 0) → ((k d : ℕ) → SearchRefusal k d → P k d) → (es : List Exchange) (p : GradientPosition) → GradientAtHead es p → wp es (round p) (FailsBy P)
-in-rounds P f es p a = wp-map es (round p) (RoundEnds p) (FailsBy P) (fails_by P f p) (round-ends es p a)
+in-rounds P f es p a = wp-map es (round p) (RoundEnds p) (FailsBy P) (fails-by P f p) (round-ends es p a)
 
 never : (n : ℕ) → (6 ≡ n → ⊥) → (7 ≡ n → ⊥) → (12 ≡ n → ⊥) → (k d : ℕ) → SearchRefusal k d → k ≡ n → ⊥
 never n a b c k d (inl i) e = a (sym i.0 ∙ e)
@@ -319,7 +319,7 @@ pub refusals : RefusalLaws
 refusals =
     record {
       in-rounds = in-rounds SearchRefusal (λ k d h. h);
-      in_opening = λ limits o x. opened-case (FailsBy FirstRefusal) limits o x (λ fs. inl (refl, refl)) (λ fs. inr (refl, refl)) (λ fs v g t w l e. tt);
+      in-opening = λ limits o x. opened-case (FailsBy FirstRefusal) limits o x (λ fs. inl (refl, refl)) (λ fs. inr (refl, refl)) (λ fs v g t w l e. tt);
       first-step-positive = first-step-positive;
       first-step-at-most-one = first-step-at-most-one;
       never-13 = in-rounds (λ k d. k ≡ 13 → ⊥) (never 13 (λ e. omega arith) (λ e. omega arith) (λ e. omega arith));

@@ -12,17 +12,17 @@ use lib.Ieee.Bits.{is_true}
 use borrow.Author.Tests.{not-false}
 use Rattle.float.specs.Binary64.{plusZero}
 use Rattle.float.specs.Values.{finiteOf, positiveOf}
-use Rattle.float.proofs.Order.{lt→le, lt_trans, le→not-above}
+use Rattle.float.proofs.Order.{lt→le, lt-trans, le→not-above}
 use Rattle.vector.specs.Lists.{dot, allFinite}
 use Rattle.protocol.specs.declared.Refusal.{Refusal}
 use Rattle.protocol.specs.declared.WolfeOptions.{WolfeOptions}
-use Rattle.protocol.specs.Protocol.{read_of, refusal, noRefusal}
+use Rattle.protocol.specs.Protocol.{readOf, refusal, noRefusal}
 use Rattle.protocol.specs.Calls.{SearchRefusal}
 use Rattle.protocol.specs.Dialogue.{Exchange, F64s}
 use Rattle.protocol.specs.Ask.{Ask, finish, query, ◌>>=◌, wp, Grows}
 use Rattle.protocol.specs.Rounds.{Ending, fails}
-use Rattle.protocol.proofs.Texts.{bind_assoc, wp-map, wp-grows}
-use Rattle.protocol.proofs.Replies.{true-T, and_left, and_right}
+use Rattle.protocol.proofs.Texts.{bind-assoc, wp-map, wp-grows}
+use Rattle.protocol.proofs.Replies.{true-T, and-left, and-right}
 use Rattle.quasinewton_model_theory.specs.Algorithm.{one}
 use Rattle.linesearch_trials.specs.declared.Evaluation.{Evaluation}
 use Rattle.linesearch_trials.specs.declared.Line.{Line}
@@ -36,9 +36,9 @@ use Rattle.quasinewton_theory.proofs.SearchLong.{search-long}
 
 -- ---- tests
 
-pub both_true : (a b : Bool) → a ≡ true → b ≡ true → a && b ≡ true
-both_true true b i j = j
-both_true false b i j = absurd (true≢false (sym i))
+pub both-true : (a b : Bool) → a ≡ true → b ≡ true → a && b ≡ true
+both-true true b i j = j
+both-true false b i j = absurd (true≢false (sym i))
 
 positive-above : (x : Float) → positiveOf x ≡ true → T (lt plusZero x)
 unfolding positiveOf
@@ -72,7 +72,7 @@ module _ (es : List Exchange) (p : GradientPosition) (d : List Float) (a : Gradi
   step = initialStep p.first d
 
   abbrev pub text : Ask WolfeResult
-  text = search read_of p.options.gradients o line step
+  text = search readOf p.options.gradients o line step
 
   -- ---- what refuses it
 
@@ -100,16 +100,16 @@ module _ (es : List Exchange) (p : GradientPosition) (d : List Float) (a : Gradi
       go false i = refl
 
   c1-positive : lt plusZero o.c1 ≡ true
-  c1-positive = and_left (lt plusZero o.c1) (lt o.c1 o.c2) (and_left (lt plusZero o.c1 && lt o.c1 o.c2) (lt o.c2 one) a.admitted.wolfe)
+  c1-positive = and-left (lt plusZero o.c1) (lt o.c1 o.c2) (and-left (lt plusZero o.c1 && lt o.c1 o.c2) (lt o.c2 one) a.admitted.wolfe)
 
   c1-less : lt o.c1 o.c2 ≡ true
-  c1-less = and_right (lt plusZero o.c1) (lt o.c1 o.c2) (and_left (lt plusZero o.c1 && lt o.c1 o.c2) (lt o.c2 one) a.admitted.wolfe)
+  c1-less = and-right (lt plusZero o.c1) (lt o.c1 o.c2) (and-left (lt plusZero o.c1 && lt o.c1 o.c2) (lt o.c2 one) a.admitted.wolfe)
 
   c2-less : lt o.c2 one ≡ true
-  c2-less = and_right (lt plusZero o.c1 && lt o.c1 o.c2) (lt o.c2 one) a.admitted.wolfe
+  c2-less = and-right (lt plusZero o.c1 && lt o.c1 o.c2) (lt o.c2 one) a.admitted.wolfe
 
   c1-below-one : lt o.c1 one ≡ true
-  c1-below-one = is_true (lt o.c1 one) (lt_trans o.c1 o.c2 one (true-T (lt o.c1 o.c2) c1-less) (true-T (lt o.c2 one) c2-less))
+  c1-below-one = is_true (lt o.c1 one) (lt-trans o.c1 o.c2 one (true-T (lt o.c1 o.c2) c1-less) (true-T (lt o.c2 one) c2-less))
 
   step-positive : positiveOf step ≡ true
   step-positive = first-step-positive p.first d s.f64s s.finite
@@ -120,8 +120,8 @@ module _ (es : List Exchange) (p : GradientPosition) (d : List Float) (a : Gradi
   tested : Tested (wolfeRefusal o p.x d p.f p.g step)
   unfolding wolfeRefusal
   tested =
-      never (not (lt plusZero o.c1 && lt o.c1 one)) _ _ (ap not (both_true (lt plusZero o.c1) (lt o.c1 one) c1-positive c1-below-one))
-      (never (not (lt o.c1 o.c2 && lt o.c2 one)) _ _ (ap not (both_true (lt o.c1 o.c2) (lt o.c2 one) c1-less c2-less))
+      never (not (lt plusZero o.c1 && lt o.c1 one)) _ _ (ap not (both-true (lt plusZero o.c1) (lt o.c1 one) c1-positive c1-below-one))
+      (never (not (lt o.c1 o.c2 && lt o.c2 one)) _ _ (ap not (both-true (lt o.c1 o.c2) (lt o.c2 one) c1-less c2-less))
       (may (eqb o.evals 0) 6 0 _ (inl (refl, refl))
       (λ e6. may (not (positiveOf o.stepmax)) 7 0 _ (inr (inl (refl, refl)))
       (λ e7. never (eqb (length p.x) 0) _ _ not-zero
@@ -143,7 +143,7 @@ module _ (es : List Exchange) (p : GradientPosition) (d : List Float) (a : Gradi
 
   by-none : by noRefusal ≡ text >>= ending
   unfolding ◌>>=◌
-  by-none = bind_assoc text (λ r. finish (gives r)) (λ r. finish (concluded p r))
+  by-none = bind-assoc text (λ r. finish (gives r)) (λ r. finish (concluded p r))
 
   by-refusal : (P : Ask (Ending GradientPosition) → Type 0) (k e : ℕ) → SearchRefusal k e → P (finish (fails k e)) → P (by (refusal k e))
   unfolding ◌>>=◌
@@ -183,10 +183,10 @@ module _ (es : List Exchange) (p : GradientPosition) (d : List Float) (a : Gradi
 
   pub found : positiveOf o.stepmax ≡ true → wp es text (λ fs r. Found fs r.at)
   found e =
-      let R = search-laws.results read_of p.options.gradients o line step es in
-      let S = search-laws.steps read_of p.options.gradients o line step es (positive-above step step-positive) (positive-above o.stepmax e) in
+      let R = search-laws.results readOf p.options.gradients o line step es in
+      let S = search-laws.steps readOf p.options.gradients o line step es (positive-above step step-positive) (positive-above o.stepmax e) in
       let lower = S.result-not-above descending a.value-told.2 in
-      let long = search-long read_of p.options.gradients o line (length p.x) refl s.long a.gradient-long step es in
+      let long = search-long readOf p.options.gradients o line (length p.x) refl s.long a.gradient-long step es in
       wp-map es text _ (λ fs r. Found fs r.at)
       (λ fs r h. record { grows = h.0; told = h.1.0.0; below = h.1.0.1; f64s = h.1.1.0; x-long = h.1.1.1.0; g-long = h.1.1.1.1 })
       (wp-grows es text _ (wp-both es text _ _ lower (wp-both es text _ _ (R.gradient-f64s a.gradient-f64s) long)))

@@ -13,7 +13,7 @@ use Rattle.vector.specs.Lists.{dot, plusScaled, first}
 use Rattle.vector.proofs.Loops.{length-upto}
 use Rattle.vector.proofs.First.{zip-long}
 use Rattle.protocol.specs.declared.WolfeOptions.{WolfeOptions}
-use Rattle.protocol.specs.Protocol.{read_of}
+use Rattle.protocol.specs.Protocol.{readOf}
 use Rattle.protocol.specs.Dialogue.{Exchange}
 use Rattle.protocol.specs.Ask.{Ask, finish, ◌>>=◌, wp}
 use Rattle.protocol.proofs.Texts.{wp-bind, wp-map}
@@ -66,7 +66,7 @@ module _ (read : Float → Float) (gradients : Bool) (o : WolfeOptions) (l : Lin
 
   eval-long : (a : Float) (es : List Exchange) → wp es (eval read gradients o l a) (λ fs t. Long t)
   unfolding ◌>>=◌
-  eval-long a es = λ k w i f. let v = read_of (get_or w 0 nan) in valued-long a v (finiteOf v) _
+  eval-long a es = λ k w i f. let v = readOf (get_or w 0 nan) in valued-long a v (finiteOf v) _
 
   abbrev Best : Option Evaluation → Type 0
   Best none = Unit {0}
@@ -105,7 +105,7 @@ module _ (read : Float → Float) (gradients : Bool) (o : WolfeOptions) (l : Lin
         Step = λ a. Unit {0};
         Fine = λ es t. Long t;
         Best = λ es best. Best best;
-        at_zero = tt;
+        at-zero = tt;
         doubled = λ a h. tt;
         between = λ lo hi p q. tt;
         fine-step = λ es t h. tt;

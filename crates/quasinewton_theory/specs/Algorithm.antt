@@ -3,12 +3,12 @@
 use Rattle.std.specs.Prelude.{ℕ, suc, Bool, true, false, not, ◌&&◌, ◌||◌, cond, List, eqb, length, Float}
 use Rattle.std.specs.Float.Ieee.{neg, lt, le}
 use Rattle.float.specs.Binary64.{◌⊖◌, ◌⊗◌, ◌⊘◌, bits, plusZero}
-use Rattle.float.specs.Values.{absOf, finiteOf, toleranceOf, max_of, minOf}
+use Rattle.float.specs.Values.{absOf, finiteOf, toleranceOf, maxOf, minOf}
 use Rattle.vector.specs.Lists.{dot, infNorm, allFinite, difference, negation}
 use Rattle.protocol.specs.declared.GradientOptions.{GradientOptions}
 use Rattle.protocol.specs.declared.Termination.{Termination}
 use Rattle.protocol.specs.declared.Termination.TheVariants.{GradientTolerance, StepTolerance, FunctionTolerance, LineSearchFailed, GradientFailed}
-use Rattle.protocol.specs.Protocol.{read_of}
+use Rattle.protocol.specs.Protocol.{readOf}
 use Rattle.protocol.specs.Ask.{Ask, finish, askValue, ◌>>=◌}
 use Rattle.protocol.specs.Rounds.{Ending, atHead, stops, fails, Verdict, goOn, stop, Rounds}
 use Rattle.objective.specs.Algorithm.{evalGradient}
@@ -30,8 +30,8 @@ pub record GradientPosition : Type 0 where
   pub first : Bool
 
 -- x = res.x; fx = res.f
-abbrev pub moved_to : GradientPosition → Evaluation → GradientPosition
-moved_to p t = record { options = p.options; x = t.x; f = t.trial.value; g = p.g; hess = p.hess; iterations = p.iterations; first = p.first }
+abbrev pub movedTo : GradientPosition → Evaluation → GradientPosition
+movedTo p t = record { options = p.options; x = t.x; f = t.trial.value; g = p.g; hess = p.hess; iterations = p.iterations; first = p.first }
 
 -- ---- after a line search
 
@@ -49,15 +49,15 @@ stepped p t =
 
 -- f_tol > 0.0 && f_prev - fx <= f_tol * fx.abs().max(1.0)
 unfoldable pub smallDecrease : Float → Float → Float → Bool
-smallDecrease ftol before now = lt plusZero ftol && le (before ⊖ now) (ftol ⊗ max_of (absOf now) one)
+smallDecrease ftol before now = lt plusZero ftol && le (before ⊖ now) (ftol ⊗ maxOf (absOf now) one)
 
 -- x_tol > 0.0 && inf_norm(&s) <= x_tol * inf_norm(&x).max(1.0)
 unfoldable pub smallStep : Float → List Float → List Float → Bool
-smallStep xtol before now = lt plusZero xtol && le (infNorm (difference now before)) (xtol ⊗ max_of (infNorm now) one)
+smallStep xtol before now = lt plusZero xtol && le (infNorm (difference now before)) (xtol ⊗ maxOf (infNorm now) one)
 
 -- "keep any improvement, then stop"
 abbrev pub stopsLower : Termination → GradientPosition → Evaluation → Bool → Ending GradientPosition
-stopsLower why p t lower = cond lower (stops why (moved_to p t)) (stops why p)
+stopsLower why p t lower = cond lower (stops why (movedTo p t)) (stops why p)
 
 abbrev pub succeeded : GradientPosition → Evaluation → Ending GradientPosition
 succeeded p t =
@@ -76,11 +76,11 @@ concluded p (gives r) =
 
 -- Nocedal and Wright, p. 142: let a0 = if first_step { (1.0 / inf_norm(&d).max(1e-30)).min(1.0) } else { 1.0 };
 unfoldable pub initialStep : Bool → List Float → Float
-initialStep first d = cond first (minOf (one ⊘ max_of (infNorm d) (bits 0x39b4_484b_feeb_c2a0)) one) one
+initialStep first d = cond first (minOf (one ⊘ maxOf (infNorm d) (bits 0x39b4_484b_feeb_c2a0)) one) one
 
 -- let res = strong_wolfe(&mut c, &x, &d, fx, &g, a0, ls)?;
 abbrev pub searched : GradientPosition → List Float → Ask (Ending GradientPosition)
-searched p d = strongWolfe read_of p.options.gradients p.options.wolfe p.x d p.f p.g (initialStep p.first d) >>= λ r. finish (concluded p r)
+searched p d = strongWolfe readOf p.options.gradients p.options.wolfe p.x d p.f p.g (initialStep p.first d) >>= λ r. finish (concluded p r)
 
 -- dphi0 >= 0.0 || !dphi0.is_finite()
 unfoldable pub notDescending : Float → Bool
@@ -113,10 +113,10 @@ withGradient limited o x v g =
     (atHead (record { options = o; x = x; f = v; g = g; hess = newHessian limited o.memory (length x); iterations = 0; first = true }))
 
 abbrev pub withValue : Bool → GradientOptions → List Float → Float → Ask (Ending GradientPosition)
-withValue limited o x v = cond (not (finiteOf v)) (finish (fails 18 0)) (evalGradient read_of o.gradients x >>= λ g. finish (withGradient limited o x v g))
+withValue limited o x v = cond (not (finiteOf v)) (finish (fails 18 0)) (evalGradient readOf o.gradients x >>= λ g. finish (withGradient limited o x v g))
 
 abbrev pub opened : Bool → GradientOptions → List Float → Ask (Ending GradientPosition)
-opened limited o x = askValue read_of x >>= withValue limited o x
+opened limited o x = askValue readOf x >>= withValue limited o x
 
 -- after 2: 3 for lbfgs alone, 4, 5, 9, 12
 abbrev pub opening : Bool → GradientOptions → List Float → Ask (Ending GradientPosition)

@@ -12,7 +12,7 @@ use Rattle.protocol.specs.declared.Kind.TheVariants.{Value, Gradient}
 use Rattle.protocol.specs.declared.SimplexOptions.{SimplexOptions}
 use Rattle.protocol.specs.declared.Termination.{Termination}
 use Rattle.protocol.specs.declared.Termination.TheVariants.{GradientTolerance, StepTolerance, FunctionTolerance, MaxIterations, MaxFevals, LineSearchFailed, GradientFailed}
-use Rattle.protocol.specs.Protocol.{read_of}
+use Rattle.protocol.specs.Protocol.{readOf}
 use Rattle.protocol.specs.Claim.{Limit, limit, unlimited}
 use Rattle.protocol.specs.Ask.{Ask, finish, query, askValue, ◌>>=◌}
 use Rattle.protocol.specs.Rounds.{Ending, atHead, stops, fails, Verdict, goOn, stop, restart, Rounds, FitLimits, reached, settle}
@@ -30,13 +30,13 @@ use Rattle.linesearch_theory.specs.Follows as search
 use Rattle.quasinewton_record.specs.declared.Fixed.{Fixed}
 use Rattle.quasinewton_record.specs.declared.Descent.{Descent}
 use Rattle.quasinewton.specs.Step as step
-use Rattle.quasinewton.specs.Step.{firstValue, firstGradient, firstDifferences, searching, byGradient, byFunction, by_step, byIterations, byFevals, bySearch, byRefusal, searchFixed, probeOf, asksOf, settled_of, toldOf, toldGradientOf, start_of}
+use Rattle.quasinewton.specs.Step.{firstValue, firstGradient, firstDifferences, searching, byGradient, byFunction, byStep, byIterations, byFevals, bySearch, byRefusal, searchFixed, probeOf, asksOf, settledOf, toldOf, toldGradientOf, startOf}
 use Rattle.quasinewton_theory.specs.Algorithm.{GradientPosition, concluded, tests, round, opened, quasiNewton}
 
 -- ---- the record and the model, read as the text's position
 
-abbrev pub position_of : Fixed → Descent → Model → GradientPosition
-position_of fixed q m =
+abbrev pub positionOf : Fixed → Descent → Model → GradientPosition
+positionOf fixed q m =
     let n = fixed.n in
     record { options = fixed.options; x = first n q.line.x; f = q.line.f; g = first n q.line.g; hess = hessian.readModel n m; iterations = q.rounds; first = q.first }
 
@@ -50,7 +50,7 @@ graded p g =
 abbrev pub valued : GradientPosition → Float → Ask (Ending GradientPosition)
 valued p v =
     let w : GradientPosition = record { options = p.options; x = p.x; f = v; g = p.g; hess = p.hess; iterations = p.iterations; first = p.first } in
-    cond (not (finiteOf v)) (finish (fails 18 0)) (evalGradient read_of p.options.gradients p.x >>= λ g. finish (graded w g))
+    cond (not (finiteOf v)) (finish (fails 18 0)) (evalGradient readOf p.options.gradients p.x >>= λ g. finish (graded w g))
 
 -- ---- what a record has still to do
 
@@ -59,21 +59,21 @@ abbrev pub reasonOf : ℕ → Termination
 reasonOf p =
     cond (eqb p byGradient) GradientTolerance
     (cond (eqb p byFunction) FunctionTolerance
-    (cond (eqb p by_step) StepTolerance
+    (cond (eqb p byStep) StepTolerance
     (cond (eqb p byIterations) MaxIterations (cond (eqb p byFevals) MaxFevals (cond (eqb p bySearch) LineSearchFailed GradientFailed)))))
 
 module _ (fixed : Fixed) where
   -- how a fit that has ended ended
   abbrev pub endingOf : Descent → Model → Ending GradientPosition
-  endingOf q m = cond (eqb q.phase byRefusal) (fails q.number q.detail) (stops (reasonOf q.phase) (position_of fixed q m))
+  endingOf q m = cond (eqb q.phase byRefusal) (fails q.number q.detail) (stops (reasonOf q.phase) (positionOf fixed q m))
 
   abbrev pub toDo : Descent → Model → Ask (Ending GradientPosition)
   toDo q m =
-      let p = position_of fixed q m in
-      cond (eqb q.phase firstValue) (askValue read_of p.x >>= valued p)
+      let p = positionOf fixed q m in
+      cond (eqb q.phase firstValue) (askValue readOf p.x >>= valued p)
       (cond (eqb q.phase firstGradient) (query Gradient p.x (λ w. finish (graded p (first fixed.n w))))
-      (cond (eqb q.phase firstDifferences) (differences.toDo read_of fixed.n q.diff >>= λ g. finish (graded p g))
-      (cond (eqb q.phase searching) (search.toDo read_of (searchFixed fixed) q.line q.search >>= λ r. finish (concluded p (gives r)))
+      (cond (eqb q.phase firstDifferences) (differences.toDo readOf fixed.n q.diff >>= λ g. finish (graded p g))
+      (cond (eqb q.phase searching) (search.toDo readOf (searchFixed fixed) q.line q.search >>= λ r. finish (concluded p (gives r)))
       (cond (eqb q.phase step.atHead) (finish (atHead p)) (finish (endingOf q m))))))
 
   -- ---- the open question and its answer
@@ -81,12 +81,12 @@ module _ (fixed : Fixed) where
   abbrev pub wantsGradient : Descent → Bool
   wantsGradient q = cond (eqb q.phase searching) (eqb q.search.phase asksGradient) (eqb q.phase firstGradient)
 
-  abbrev pub kind_of : Descent → Kind
-  kind_of q = cond (wantsGradient q) Gradient Value
+  abbrev pub kindOf : Descent → Kind
+  kindOf q = cond (wantsGradient q) Gradient Value
 
   -- the record after the words of an answer to its question
   abbrev pub heardOf : Descent → List Float → Descent
-  heardOf q w = cond (wantsGradient q) (toldGradientOf fixed q (fromSliceOf w fixed.n)) (toldOf fixed q (read_of (get_or w 0 nan)))
+  heardOf q w = cond (wantsGradient q) (toldGradientOf fixed q (fromSliceOf w fixed.n)) (toldOf fixed q (readOf (get_or w 0 nan)))
 
 -- ---- a text goes on through the head, after v accepted values
 
@@ -160,28 +160,28 @@ module _ (fixed : Fixed) where
   pub record GradientFollows : Type 0 where
     -- the start has the opening to do that comes after its refusals
     pub starts : (limited : Bool) (x : List Float) → fixed.n ≤ 16
-        → toDo fixed (start_of x) (newModelOf limited fixed.options.memory fixed.n) ≡ opened limited fixed.options (first fixed.n x)
+        → toDo fixed (startOf x) (newModelOf limited fixed.options.memory fixed.n) ≡ opened limited fixed.options (first fixed.n x)
     -- whatever the words w tell
     pub follows : (q : Descent) (m : Model) → DescentShaped fixed q → asksOf q ≡ true
-        → toDo fixed q m ≡ query (kind_of fixed q) (first fixed.n (probeOf fixed q)) (λ w. toDo fixed (heardOf fixed q w) m)
+        → toDo fixed q m ≡ query (kindOf fixed q) (first fixed.n (probeOf fixed q)) (λ w. toDo fixed (heardOf fixed q w) m)
     -- from the head of a round, or from a search that has ended, after whatever count v
     pub settles : (q : Descent) (m : Model) (l : FitLimits) (v : ℕ) → GradientAllows fixed l v → DescentShaped fixed q → hessian.ModelSized m
-        → settled l v (toDo fixed q m) ≡ toDo fixed (settled_of fixed q m v).descent (settled_of fixed q m v).model
+        → settled l v (toDo fixed q m) ≡ toDo fixed (settledOf fixed q m v).descent (settledOf fixed q m v).model
     -- a record that is handed back and does not ask has ended
     pub ends : (q : Descent) (m : Model) → DescentShaped fixed q → DescentStands q → asksOf q ≡ false → toDo fixed q m ≡ finish (endingOf fixed q m)
     -- it lasts
-    pub start-shaped : (x : List Float) → 1 ≤ fixed.n → fixed.n ≤ 16 → Sixteen x → DescentShaped fixed (start_of x)
-    pub start-stands : (x : List Float) → DescentStands (start_of x)
+    pub start-shaped : (x : List Float) → 1 ≤ fixed.n → fixed.n ≤ 16 → Sixteen x → DescentShaped fixed (startOf x)
+    pub start-stands : (x : List Float) → DescentStands (startOf x)
     pub told-shaped : (q : Descent) (v : Float) → DescentShaped fixed q → DescentShaped fixed (toldOf fixed q v)
     pub told-gradient-shaped : (q : Descent) (g : List Float) → Sixteen g → DescentShaped fixed q → DescentShaped fixed (toldGradientOf fixed q g)
     pub heard-shaped : (q : Descent) (w : List Float) → DescentShaped fixed q → DescentShaped fixed (heardOf fixed q w)
-    pub settled-shaped : (q : Descent) (m : Model) (v : ℕ) → DescentShaped fixed q → hessian.ModelSized m → DescentShaped fixed (settled_of fixed q m v).descent × hessian.ModelSized (settled_of fixed q m v).model
-    pub settled-stands : (q : Descent) (m : Model) (v : ℕ) → DescentShaped fixed q → DescentStands (settled_of fixed q m v).descent
+    pub settled-shaped : (q : Descent) (m : Model) (v : ℕ) → DescentShaped fixed q → hessian.ModelSized m → DescentShaped fixed (settledOf fixed q m v).descent × hessian.ModelSized (settledOf fixed q m v).model
+    pub settled-stands : (q : Descent) (m : Model) (v : ℕ) → DescentShaped fixed q → DescentStands (settledOf fixed q m v).descent
     -- every coordinate past n is +0.0
-    pub start-zeros : (x : List Float) → ZeroFrom fixed.n x → DescentZeroPast fixed.n (start_of x)
+    pub start-zeros : (x : List Float) → ZeroFrom fixed.n x → DescentZeroPast fixed.n (startOf x)
     pub told-zeros : (q : Descent) (v : Float) → DescentShaped fixed q → DescentZeroPast fixed.n q → DescentZeroPast fixed.n (toldOf fixed q v)
     pub told-gradient-zeros : (q : Descent) (g : List Float) → Sixteen g → ZeroFrom fixed.n g → DescentShaped fixed q → DescentZeroPast fixed.n q → DescentZeroPast fixed.n (toldGradientOf fixed q g)
     pub heard-zeros : (q : Descent) (w : List Float) → DescentShaped fixed q → DescentZeroPast fixed.n q → DescentZeroPast fixed.n (heardOf fixed q w)
     pub settled-zeros : (q : Descent) (m : Model) (v : ℕ) → DescentShaped fixed q → hessian.ModelSized m → DescentZeroPast fixed.n q → hessian.ModelZeroPast fixed.n m
-        → DescentZeroPast fixed.n (settled_of fixed q m v).descent × hessian.ModelZeroPast fixed.n (settled_of fixed q m v).model
+        → DescentZeroPast fixed.n (settledOf fixed q m v).descent × hessian.ModelZeroPast fixed.n (settledOf fixed q m v).model
     pub probe-zeros : (q : Descent) → DescentShaped fixed q → DescentZeroPast fixed.n q → ZeroFrom fixed.n (probeOf fixed q)

@@ -103,7 +103,7 @@ FailsBy P es (fails k d) = P k d
 pub record RefusalLaws : Type 0 where
   -- of all that `strong_wolfe` tests, a fit that was started meets 6, 7 and 12 with detail 1 alone: not 5, nor 9 to 11, nor 12 for direction, gradient or f0, nor 13, nor 14
   pub in-rounds : (es : List Exchange) (p : GradientPosition) → GradientAtHead es p → wp es (round p) (FailsBy SearchRefusal)
-  pub in_opening : (limits : Bool) (o : GradientOptions) (x : List Float) → wp [] (opened limits o x) (FailsBy FirstRefusal)
+  pub in-opening : (limits : Bool) (o : GradientOptions) (x : List Float) → wp [] (opened limits o x) (FailsBy FirstRefusal)
   -- 13 is never met, since the first step is positive and finite
   pub first-step-positive : (first : Bool) (d : List Float) → F64s d → allFinite d ≡ true → positiveOf (initialStep first d) ≡ true
   -- 01: "First step min(1/max(|d|, 1e-30), 1)"

@@ -45,8 +45,8 @@ abbrev pub adaptive : SimplexOptions
 adaptive = record { xtol = plusZero; ftol = plusZero; step = bits 0x3FE0_0000_0000_0000; restarts = 0; adaptive = true }
 
 -- "P adaptive n 4: 1, 1.5, 0.625, 0.75"
-abbrev pub of_four : List Row
-of_four =
+abbrev pub ofFour : List Row
+ofFour =
     (alpha gives 0x3FF0_0000_0000_0000)
     ∷ (beta adaptive 4 gives 0x3FF8_0000_0000_0000)
     ∷ (gamma adaptive 4 gives 0x3FE4_0000_0000_0000)
@@ -70,7 +70,7 @@ edges =
     ∷ []
 
 abbrev pub table : List Row
-table = roots ++ cubics ++ of_four ++ ofTwo ++ edges
+table = roots ++ cubics ++ ofFour ++ ofTwo ++ edges
 
 -- every row's definition computes to its value
 abbrev pub Computes : Type 0

@@ -10,10 +10,10 @@ use lib.ListN.{length, replicate, length-append, length-replicate, get_or-replic
 use lib.Seq.{get_or-append-add, get_or_at}
 use lib.Ieee.{Float, nan, neg}
 use Rattle.float.specs.Binary64.{◌⊕◌, ◌⊖◌, ◌⊗◌, ◌⊘◌, plusZero, minusZero}
-use Rattle.float.specs.Values.{absOf, finiteOf, max_of}
+use Rattle.float.specs.Values.{absOf, finiteOf, maxOf}
 use Rattle.vector.specs.Loops.{fold, upto, point, at}
-use Rattle.vector.specs.Points.{fromSliceOf, dotOf, infNormOf, allFiniteOf, plusScaledOf, minusScaledOf, differenceOf, additionOf, quotient_of, scaledOf, negationOf, towardsOf, shrunkOf, rowDotOf, matVecOf}
-use Rattle.vector.specs.Lists.{dot, infNorm, allFinite, plusScaled, minusScaled, difference, addition, quotient, scaled, negation, towards, shrunk, matVec, first, row_of, rows_of}
+use Rattle.vector.specs.Points.{fromSliceOf, dotOf, infNormOf, allFiniteOf, plusScaledOf, minusScaledOf, differenceOf, additionOf, quotientOf, scaledOf, negationOf, towardsOf, shrunkOf, rowDotOf, matVecOf}
+use Rattle.vector.specs.Lists.{dot, infNorm, allFinite, plusScaled, minusScaled, difference, addition, quotient, scaled, negation, towards, shrunk, matVec, first, rowOf, rowsOf}
 use Rattle.vector.specs.Ties.{PointLaws, Ties}
 use Rattle.vector.proofs.Loops.{length-upto}
 
@@ -25,16 +25,16 @@ zip-long zero f (x ∷ xs) (y ∷ ys) i j = absurd (omega arith)
 zip-long (suc n) f (x ∷ xs) (y ∷ ys) i j = ap suc (zip-long n f xs ys (omega arith) (omega arith))
 
 -- ---- lists built at the end
-map_more : {A B : Type 0} (f : A → B) (xs : List A) (x : A) → map f (xs ++ (x ∷ [])) ≡ map f xs ++ (f x ∷ [])
-map_more f [] x = refl
-map_more f (y ∷ ys) x = ap (λ l. f y ∷ l) (map_more f ys x)
+map-more : {A B : Type 0} (f : A → B) (xs : List A) (x : A) → map f (xs ++ (x ∷ [])) ≡ map f xs ++ (f x ∷ [])
+map-more f [] x = refl
+map-more f (y ∷ ys) x = ap (λ l. f y ∷ l) (map-more f ys x)
 
-zip_more : {A B C : Type 0} (f : A → B → C) (xs : List A) (ys : List B) (x : A) (y : B) → length xs ≡ length ys → zip_with f (xs ++ (x ∷ [])) (ys ++ (y ∷ [])) ≡ zip_with f xs ys ++ (f x y ∷ [])
+zip-more : {A B C : Type 0} (f : A → B → C) (xs : List A) (ys : List B) (x : A) (y : B) → length xs ≡ length ys → zip_with f (xs ++ (x ∷ [])) (ys ++ (y ∷ [])) ≡ zip_with f xs ys ++ (f x y ∷ [])
 unfolding zip_with
-zip_more f [] [] x y e = refl
-zip_more f [] (b ∷ bs) x y e = absurd (omega arith)
-zip_more f (a ∷ as') [] x y e = absurd (omega arith)
-zip_more f (a ∷ as') (b ∷ bs) x y e = ap (λ l. f a b ∷ l) (zip_more f as' bs x y (omega arith))
+zip-more f [] [] x y e = refl
+zip-more f [] (b ∷ bs) x y e = absurd (omega arith)
+zip-more f (a ∷ as') [] x y e = absurd (omega arith)
+zip-more f (a ∷ as') (b ∷ bs) x y e = ap (λ l. f a b ∷ l) (zip-more f as' bs x y (omega arith))
 
 foldl-upto : {A B : Type 0} (f : A → B → A) (z : A) (g : ℕ → B) (n : ℕ) → foldl f z (upto g n) ≡ fold (λ s i. f s (g i)) z n
 foldl-upto f z g zero = refl
@@ -42,11 +42,11 @@ foldl-upto f z g (suc n) = foldl-append f z (upto g n) (g n ∷ []) ∙ ap (λ s
 
 map-upto : {A B : Type 0} (f : A → B) (g : ℕ → A) (n : ℕ) → map f (upto g n) ≡ upto (λ i. f (g i)) n
 map-upto f g zero = refl
-map-upto f g (suc n) = map_more f (upto g n) (g n) ∙ ap (λ l. l ++ (f (g n) ∷ [])) (map-upto f g n)
+map-upto f g (suc n) = map-more f (upto g n) (g n) ∙ ap (λ l. l ++ (f (g n) ∷ [])) (map-upto f g n)
 
 zip-upto : {A B C : Type 0} (f : A → B → C) (g : ℕ → A) (h : ℕ → B) (n : ℕ) → zip_with f (upto g n) (upto h n) ≡ upto (λ i. f (g i) (h i)) n
 zip-upto f g h zero = unfold zip_with in refl
-zip-upto f g h (suc n) = zip_more f (upto g n) (upto h n) (g n) (h n) (length-upto g n ∙ sym (length-upto h n)) ∙ ap (λ l. l ++ (f (g n) (h n) ∷ [])) (zip-upto f g h n)
+zip-upto f g h (suc n) = zip-more f (upto g n) (upto h n) (g n) (h n) (length-upto g n ∙ sym (length-upto h n)) ∙ ap (λ l. l ++ (f (g n) (h n) ∷ [])) (zip-upto f g h n)
 
 pub upto-same : {A : Type 0} (f g : ℕ → A) (n : ℕ) → ((k : ℕ) → k < n → f k ≡ g k) → upto f n ≡ upto g n
 upto-same f g zero h = refl
@@ -106,20 +106,20 @@ dotted : (g : ℕ → Float) (b : List Float) (n : ℕ) → fold (λ s i. s ⊕ 
 unfolding dot first
 dotted g b n = sym (ap (foldl ◌⊕◌ minusZero) (zip-upto ◌⊗◌ g (at b) n) ∙ foldl-upto ◌⊕◌ minusZero (λ i. g i ⊗ at b i) n)
 
-rows : (h v : List Float) (n : ℕ) → first n (matVecOf h v n n) ≡ matVec (rows_of n h) (first n v)
-unfolding matVecOf matVec rows_of row_of
+rows : (h v : List Float) (n : ℕ) → first n (matVecOf h v n n) ≡ matVec (rowsOf n h) (first n v)
+unfolding matVecOf matVec rowsOf rowOf
 rows h v n =
     first-point (λ i. rowDotOf h i v n) n
-    ∙ upto-same (λ i. rowDotOf h i v n) (λ i. dot (row_of n h i) (first n v)) n (λ i l. dotted (λ j. at h (i * 16 + j)) v n)
-    ∙ sym (map-upto (λ row. dot row (first n v)) (row_of n h) n)
+    ∙ upto-same (λ i. rowDotOf h i v n) (λ i. dot (rowOf n h i) (first n v)) n (λ i l. dotted (λ j. at h (i * 16 + j)) v n)
+    ∙ sym (map-upto (λ row. dot row (first n v)) (rowOf n h) n)
 
 pub ties : Ties
-unfolding fromSliceOf dotOf infNormOf allFiniteOf plusScaledOf minusScaledOf differenceOf additionOf quotient_of scaledOf negationOf towardsOf shrunkOf rowDotOf dot infNorm allFinite plusScaled minusScaled difference addition quotient scaled negation towards shrunk first row_of
+unfolding fromSliceOf dotOf infNormOf allFiniteOf plusScaledOf minusScaledOf differenceOf additionOf quotientOf scaledOf negationOf towardsOf shrunkOf rowDotOf dot infNorm allFinite plusScaled minusScaled difference addition quotient scaled negation towards shrunk first rowOf
 ties =
     record {
       from-slice = λ s n. first-point (at s) n;
       dot-of = λ a b n. dotted (at a) b n;
-      inf-norm = λ a n. folded (λ m v. max_of m (absOf v)) plusZero a n;
+      inf-norm = λ a n. folded (λ m v. maxOf m (absOf v)) plusZero a n;
       all-finite = λ a n. folded (λ b v. b && finiteOf v) true a n;
       plus-scaled = λ x t d n. zipped (λ xi di. xi ⊕ t ⊗ di) x d n;
       minus-scaled = λ x t d n. zipped (λ xi di. xi ⊖ t ⊗ di) x d n;

@@ -29,9 +29,9 @@ first-set n x i v h l =
     place k j false e = get_or-set_other x i k v nan (eqb-false k i e) ∙ sym (get_or-set_other (first n x) i k v nan (eqb-false k i e) ∙ read x k j)
 
 -- the next coordinate is put at the end of those that are done
-pub first_more : (g : List Float) (i : ℕ) (v : Float) → i < length g → first (suc i) (set g i v) ≡ first i g ++ (v ∷ [])
+pub first-more : (g : List Float) (i : ℕ) (v : Float) → i < length g → first (suc i) (set g i v) ≡ first i g ++ (v ∷ [])
 unfolding first
-first_more g i v l = ap₂ (λ a b. a ++ (b ∷ [])) (upto-same (at (set g i v)) (at g) i (λ k h. get_or-set_other g i k v nan (λ e. omega arith))) (get_or-set_same g i v nan l)
+first-more g i v l = ap₂ (λ a b. a ++ (b ∷ [])) (upto-same (at (set g i v)) (at g) i (λ k h. get_or-set_other g i k v nan (λ e. omega arith))) (get_or-set_same g i v nan l)
 
 -- all coordinates of a list are the list
 pub first-whole : (x : List Float) → first (length x) x ≡ x

@@ -3,7 +3,7 @@ use Rattle.std.specs.Prelude.{ℕ, ◌+◌, ◌*◌, Bool, true, ◌&&◌, Float
 use mathlib.Core.List.{List, foldl, map, zip_with}
 use Rattle.std.specs.Float.Ieee.{neg}
 use Rattle.float.specs.Binary64.{◌⊕◌, ◌⊖◌, ◌⊗◌, ◌⊘◌, plusZero, minusZero}
-use Rattle.float.specs.Values.{absOf, finiteOf, max_of}
+use Rattle.float.specs.Values.{absOf, finiteOf, maxOf}
 use Rattle.vector.specs.Loops.{upto, at}
 
 -- a.iter().zip(b).map(|(&x, &y)| x * y).sum()
@@ -13,7 +13,7 @@ dot a b = foldl ◌⊕◌ minusZero (zip_with ◌⊗◌ a b)
 
 -- a.iter().fold(0.0, |m, &v| m.max(v.abs()))
 unfoldable pub infNorm : List Float → Float
-infNorm a = foldl (λ m v. max_of m (absOf v)) plusZero a
+infNorm a = foldl (λ m v. maxOf m (absOf v)) plusZero a
 
 -- !a.iter().any(|v| !v.is_finite())
 unfoldable pub allFinite : List Float → Bool
@@ -73,9 +73,9 @@ unfoldable pub first : ℕ → List Float → List Float
 first n x = upto (at x) n
 
 -- the first n rows of a matrix of sixteen columns, n coordinates each
-unfoldable pub row_of : ℕ → List Float → ℕ → List Float
-row_of n h i = upto (λ j. at h (i * 16 + j)) n
+unfoldable pub rowOf : ℕ → List Float → ℕ → List Float
+rowOf n h i = upto (λ j. at h (i * 16 + j)) n
 
-unfoldable pub rows_of : ℕ → List Float → List (List Float)
-unfolding row_of
-rows_of n h = upto (row_of n h) n
+unfoldable pub rowsOf : ℕ → List Float → List (List Float)
+unfolding rowOf
+rowsOf n h = upto (rowOf n h) n

@@ -3,7 +3,7 @@
 use Rattle.std.specs.Prelude.{ℕ, ◌+◌, ◌*◌, Bool, true, ◌&&◌, List, Float}
 use Rattle.std.specs.Float.Ieee.{neg}
 use Rattle.float.specs.Binary64.{◌⊕◌, ◌⊖◌, ◌⊗◌, ◌⊘◌, plusZero, minusZero}
-use Rattle.float.specs.Values.{absOf, finiteOf, max_of}
+use Rattle.float.specs.Values.{absOf, finiteOf, maxOf}
 use Rattle.vector.specs.Loops.{fold, point, at}
 
 unfoldable pub fromSliceOf : List Float → ℕ → List Float
@@ -15,7 +15,7 @@ dotOf a b = fold (λ s i. s ⊕ at a i ⊗ at b i) minusZero
 
 -- the largest magnitude, from +0; `max` passes over a NaN
 unfoldable pub infNormOf : List Float → ℕ → Float
-infNormOf a = fold (λ m i. max_of m (absOf (at a i))) plusZero
+infNormOf a = fold (λ m i. maxOf m (absOf (at a i))) plusZero
 
 unfoldable pub allFiniteOf : List Float → ℕ → Bool
 allFiniteOf a = fold (λ b i. b && finiteOf (at a i)) true
@@ -35,8 +35,8 @@ unfoldable pub additionOf : List Float → List Float → ℕ → List Float
 additionOf a b = point (λ i. at a i ⊕ at b i)
 
 -- a / t
-unfoldable pub quotient_of : List Float → Float → ℕ → List Float
-quotient_of a t = point (λ i. at a i ⊘ t)
+unfoldable pub quotientOf : List Float → Float → ℕ → List Float
+quotientOf a t = point (λ i. at a i ⊘ t)
 
 -- a t
 unfoldable pub scaledOf : List Float → Float → ℕ → List Float

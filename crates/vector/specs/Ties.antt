@@ -2,8 +2,8 @@
 use Rattle.std.specs.Prelude.{ℕ, ◌≤◌, ◌<◌, ◌≡◌, List, length, Float}
 use Rattle.float.specs.Binary64.{plusZero}
 use Rattle.vector.specs.Loops.{point, at}
-use Rattle.vector.specs.Points.{fromSliceOf, dotOf, infNormOf, allFiniteOf, plusScaledOf, minusScaledOf, differenceOf, additionOf, quotient_of, scaledOf, negationOf, towardsOf, shrunkOf, rowDotOf, matVecOf}
-use Rattle.vector.specs.Lists.{dot, infNorm, allFinite, plusScaled, minusScaled, difference, addition, quotient, scaled, negation, towards, shrunk, matVec, first, row_of, rows_of}
+use Rattle.vector.specs.Points.{fromSliceOf, dotOf, infNormOf, allFiniteOf, plusScaledOf, minusScaledOf, differenceOf, additionOf, quotientOf, scaledOf, negationOf, towardsOf, shrunkOf, rowDotOf, matVecOf}
+use Rattle.vector.specs.Lists.{dot, infNorm, allFinite, plusScaled, minusScaled, difference, addition, quotient, scaled, negation, towards, shrunk, matVec, first, rowOf, rowsOf}
 
 -- the coordinates past the first n are +0.0
 abbrev pub ZeroFrom : ℕ → List Float → Type 0
@@ -27,10 +27,10 @@ pub record Ties : Type 0 where
   pub minus-scaled : (x : List Float) (t : Float) (d : List Float) (n : ℕ) → first n (minusScaledOf x t d n) ≡ minusScaled (first n x) t (first n d)
   pub difference-of : (a b : List Float) (n : ℕ) → first n (differenceOf a b n) ≡ difference (first n a) (first n b)
   pub addition-of : (a b : List Float) (n : ℕ) → first n (additionOf a b n) ≡ addition (first n a) (first n b)
-  pub quotient-of : (a : List Float) (t : Float) (n : ℕ) → first n (quotient_of a t n) ≡ quotient (first n a) t
+  pub quotient-of : (a : List Float) (t : Float) (n : ℕ) → first n (quotientOf a t n) ≡ quotient (first n a) t
   pub scaled-of : (a : List Float) (t : Float) (n : ℕ) → first n (scaledOf a t n) ≡ scaled (first n a) t
   pub negation-of : (a : List Float) (n : ℕ) → first n (negationOf a n) ≡ negation (first n a)
   pub towards-of : (c w : List Float) (t : Float) (n : ℕ) → first n (towardsOf c w t n) ≡ towards (first n c) (first n w) t
   pub shrunk-of : (b v : List Float) (t : Float) (n : ℕ) → first n (shrunkOf b v t n) ≡ shrunk (first n b) (first n v) t
-  pub row-dot : (h : List Float) (i : ℕ) (v : List Float) (n : ℕ) → rowDotOf h i v n ≡ dot (row_of n h i) (first n v)
-  pub mat-vec : (h v : List Float) (n : ℕ) → first n (matVecOf h v n n) ≡ matVec (rows_of n h) (first n v)
+  pub row-dot : (h : List Float) (i : ℕ) (v : List Float) (n : ℕ) → rowDotOf h i v n ≡ dot (rowOf n h i) (first n v)
+  pub mat-vec : (h v : List Float) (n : ℕ) → first n (matVecOf h v n n) ≡ matVec (rowsOf n h) (first n v)

@@ -1,6 +1,6 @@
 // Points of the first n of sixteen coordinates, those past n zero. One loop to a function.
 ghost use Rattle.std.specs.Prelude.{◌≡◌, ◌≤◌, ◌<◌, length};
-ghost use Rattle.vector.specs.Points.{fromSliceOf, dotOf, infNormOf, allFiniteOf, plusScaledOf, minusScaledOf, differenceOf, additionOf, quotient_of, scaledOf, negationOf, towardsOf, shrunkOf, rowDotOf, matVecOf};
+ghost use Rattle.vector.specs.Points.{fromSliceOf, dotOf, infNormOf, allFiniteOf, plusScaledOf, minusScaledOf, differenceOf, additionOf, quotientOf, scaledOf, negationOf, towardsOf, shrunkOf, rowDotOf, matVecOf};
 
 // The point that a slice lists.
 pub fn from_slice(s: &[f64], n: usize) -> [f64; 16]
@@ -118,7 +118,7 @@ pub fn addition(a: [f64; 16], b: [f64; 16], n: usize) -> [f64; 16]
 // a / t
 pub fn quotient(a: [f64; 16], t: f64, n: usize) -> [f64; 16]
     requires { n ≤ 16 }
-    ensures { result ≡ quotient_of a t n }
+    ensures { result ≡ quotientOf a t n }
 {
     let mut r = [0.0; 16];
     let mut i: usize = 0;

@@ -4,7 +4,7 @@ use mathlib.Core.Path.{◌≡◌, refl, sym, ◌∙◌}
 use mathlib.Core.Bool.{false}
 use Prim.Native.Nat.{ℕ, ◌-◌, ◌≤◌, zero-le}
 use lib.ListN.{length}
-use Rattle.bench_rosenbrock.specs.Most.{outsideOf, most_of}
+use Rattle.bench_rosenbrock.specs.Most.{outsideOf, mostOf}
 use Rattle.bench_rosenbrock.proofs.Inside.{inside}
 use Rattle.bench_rosenbrock.proofs.rosenbrock_fit.Given as goal
 

@@ -1,17 +1,17 @@
 -- `fit_state::start` meets its contract: each return follows the calls and tests that led to it. Assumes nothing.
 use borrow.Author.Rules.{rules}
 use borrow.Author.Tests.{eq-eqb, ne_eqb}
-use Rattle.fit_state.specs.States.{start_of}
+use Rattle.fit_state.specs.States.{startOf}
 use Rattle.fit_state.proofs.start.Goals as goal
 
 pub returns-then-s-eq-SIMPLEX : goal.returns-then-s-eq-SIMPLEX
-unfolding start_of
+unfolding startOf
 returns-then-s-eq-SIMPLEX c = rw (← c.simplex.ensures.0, eq-eqb _ _ c.if-s-eq-SIMPLEX.true)
 
 pub returns-then-s-eq-BFGS : goal.returns-then-s-eq-BFGS
-unfolding start_of
+unfolding startOf
 returns-then-s-eq-BFGS c = rw (← c.bfgs.ensures.0, ne_eqb _ _ c.if-s-eq-SIMPLEX.false, eq-eqb _ _ c.if-s-eq-BFGS.true)
 
 pub returns : goal.returns
-unfolding start_of
+unfolding startOf
 returns c = rw (← c.lbfgs.ensures.0, ne_eqb _ _ c.if-s-eq-SIMPLEX.false, ne_eqb _ _ c.if-s-eq-BFGS.false)

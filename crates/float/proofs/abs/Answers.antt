@@ -1,6 +1,6 @@
 -- `float::abs` meets its contract. Assumes nothing.
 use Rattle.float.specs.Values.{absOf}
-use Rattle.float.proofs.Bits.{held, is-nan, number, abs_is, abs-no-nan}
+use Rattle.float.proofs.Bits.{held, is-nan, number, abs-is, abs-no-nan}
 use Rattle.float.proofs.abs.Goals as goal
 
 pub returns-then-x : goal.returns-then-x
@@ -17,4 +17,4 @@ float_from_bits-result c = abs-no-nan c.args.x (held c.well_formed.0.1) (number 
 
 pub returns : goal.returns
 unfolding absOf
-returns c = abs_is c.args.x (held c.well_formed.0.1) (number c.args.x c.if-x.false)
+returns c = abs-is c.args.x (held c.well_formed.0.1) (number c.args.x c.if-x.false)

@@ -1,7 +1,7 @@
 -- `float::integer_root` meets its contract, from the root of w. Assumes nothing.
 use borrow.Author.Rules.{rules}
 use native.Mathlib.Omega.{arith}
-use Rattle.float.proofs.IntegerRoots.{WordRoot, s-least, s-most, q-most, q-square, raised, lifted, all_digits, one_less}
+use Rattle.float.proofs.IntegerRoots.{WordRoot, s-least, s-most, q-most, q-square, raised, lifted, all-digits, one-less}
 use Rattle.float.proofs.integer_root.Goals as goal
 
 pub nonzero_div-q : goal.nonzero_div-q
@@ -32,9 +32,9 @@ overflow_sub-result c =
 pub returns-then-q-rest : goal.returns-then-q-rest
 returns-then-q-rest c =
     let word : WordRoot c.args.w c.word_root-s.result = record { wide = c.requires.bound; fits = c.requires.w_bound; root = c.word_root-s.ensures } in
-    all_digits word (omega (arith, c.if-q-rest.true, lifted word))
+    all-digits word (omega (arith, c.if-q-rest.true, lifted word))
 
 pub returns-else-q-rest : goal.returns-else-q-rest
 returns-else-q-rest c =
     let word : WordRoot c.args.w c.word_root-s.result = record { wide = c.requires.bound; fits = c.requires.w_bound; root = c.word_root-s.ensures } in
-    one_less word (omega (arith, c.if-q-rest.false, lifted word))
+    one-less word (omega (arith, c.if-q-rest.false, lifted word))

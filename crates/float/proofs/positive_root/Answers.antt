@@ -1,7 +1,7 @@
 -- `float::positive_root` meets its contract. Assumes nothing.
 use borrow.Author.Rules.{rules}
 use native.Mathlib.Omega.{arith}
-use Rattle.float.proofs.Rounded.{width, r-high, no_nan, result-is}
+use Rattle.float.proofs.Rounded.{width, r-high, no-nan, result-is}
 use Rattle.float.proofs.positive_root.Goals as goal
 
 pub integer_root-requires : goal.integer_root-requires
@@ -18,7 +18,7 @@ overflow_add-q c =
 pub float_from_bits-result : goal.float_from_bits-result
 float_from_bits-result c =
     let p = c.full_width-p in
-    no_nan c.args.b p.result.m p.result.e p.ensures c.integer_root.result c.integer_root.ensures
+    no-nan c.args.b p.result.m p.result.e p.ensures c.integer_root.result c.integer_root.ensures
 
 pub returns : goal.returns
 returns c =

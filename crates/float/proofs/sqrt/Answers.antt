@@ -4,7 +4,7 @@ use lib.Ieee.{div, of_bits}
 use Rattle.float.specs.Binary64.{Number}
 use Rattle.float.specs.Sqrt.{sqrtOf}
 use Rattle.float.proofs.Bits.{held, is-nan, number}
-use Rattle.float.proofs.Quanta.{root-of-zero, root-below-zero, root-of-infinity, at_least, at_most, above-is}
+use Rattle.float.proofs.Quanta.{root-of-zero, root-below-zero, root-of-infinity, at-least, at-most, above-is}
 use Rattle.float.proofs.sqrt.Goals as goal
 
 pub returns-then-x : goal.returns-then-x
@@ -35,12 +35,12 @@ returns-then-b-eq-TOP c =
 pub positive_root-requires : goal.positive_root-requires
 positive_root-requires c =
     let numeric : Number c.args.x = number c.args.x c.if-x.false in
-    let n = numeric in record { b_nonzero = at_least c.args.x (held c.well_formed.0.1) n c.if-b-eq0.false c.if-b-eq1.false; b_bound = at_most c.args.x (held c.well_formed.0.1) n c.if-b-eq0.false c.if-b-eq1.false c.if-b-eq-TOP.false }
+    let n = numeric in record { b_nonzero = at-least c.args.x (held c.well_formed.0.1) n c.if-b-eq0.false c.if-b-eq1.false; b_bound = at-most c.args.x (held c.well_formed.0.1) n c.if-b-eq0.false c.if-b-eq1.false c.if-b-eq-TOP.false }
 
 pub returns : goal.returns
 returns c =
     let numeric : Number c.args.x = number c.args.x c.if-x.false in
     c.positive_root.ensures
     ∙ above-is c.args.x (held c.well_formed.0.1) numeric
-    (at_least c.args.x (held c.well_formed.0.1) numeric c.if-b-eq0.false c.if-b-eq1.false)
-    (at_most c.args.x (held c.well_formed.0.1) numeric c.if-b-eq0.false c.if-b-eq1.false c.if-b-eq-TOP.false)
+    (at-least c.args.x (held c.well_formed.0.1) numeric c.if-b-eq0.false c.if-b-eq1.false)
+    (at-most c.args.x (held c.well_formed.0.1) numeric c.if-b-eq0.false c.if-b-eq1.false c.if-b-eq-TOP.false)

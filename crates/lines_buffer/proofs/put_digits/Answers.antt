@@ -8,7 +8,7 @@ use lib.ListN.{length, take, drop, length-set}
 use lib.Seq.{slice, slice_empty, take-set-le, drop-set-lt}
 use borrow.Author.Rules.{rules}
 use Rattle.lines_buffer.specs.Texts.{numeral}
-use Rattle.lines_buffer.proofs.Writes.{moved, all_moved}
+use Rattle.lines_buffer.proofs.Writes.{moved, all-moved}
 use Rattle.lines_buffer.proofs.put_digits.Goals as goal
 
 pub loop-i-init : goal.loop-i-init
@@ -43,4 +43,4 @@ returns c =
     let a = c.args in
     let l = c.loop-i in
     let z : l.i ≡ 0 = omega arith in
-    all_moved a.base a.k a.at a.n l.rest a.out.now l.out l.invariant.1 l.invariant.2 l.invariant.3 (rw z at l.invariant.4)
+    all-moved a.base a.k a.at a.n l.rest a.out.now l.out l.invariant.1 l.invariant.2 l.invariant.3 (rw z at l.invariant.4)

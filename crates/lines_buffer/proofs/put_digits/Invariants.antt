@@ -8,7 +8,7 @@ use lib.ListN.{length, take, drop, length-set}
 use lib.Seq.{slice, slice_empty, take-set-le, drop-set-lt}
 use borrow.Author.Rules.{rules}
 use Rattle.lines_buffer.specs.Texts.{numeral}
-use Rattle.lines_buffer.proofs.Writes.{moved, all_moved}
+use Rattle.lines_buffer.proofs.Writes.{moved, all-moved}
 use Rattle.lines_buffer.proofs.put_digits.Given as goal
 
 abbrev pub invariant-loop-i : goal.invariant-loop-i

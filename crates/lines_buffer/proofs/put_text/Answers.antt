@@ -6,14 +6,14 @@ use lib.ListN.{length, take, get_or}
 use lib.Seq.{take_all}
 use borrow.Author.Rules.{rules}
 use Rattle.lines_buffer.specs.Texts.{Written}
-use Rattle.lines_buffer.proofs.Writes.{wrote_none, wrote-more, wrote-is, take_more}
+use Rattle.lines_buffer.proofs.Writes.{wrote-none, wrote-more, wrote-is, take-more}
 use Rattle.lines_buffer.proofs.put_text.Goals as goal
 
 pub loop-i-init : goal.loop-i-init
 loop-i-init c =
     let a = c.args in
     let z : a.at + 0 ≡ a.at = omega arith in
-    (omega arith, rw z (wrote_none a.out.now a.at))
+    (omega arith, rw z (wrote-none a.out.now a.at))
 
 pub bounds-out-j : goal.bounds-out-j
 bounds-out-j c = omega (arith, c.loop-i.invariant.1.long)
@@ -24,7 +24,7 @@ loop-i-preserved c =
     let l = c.loop-i in
     let next : a.at + l.i + 1 ≡ a.at + (l.i + 1) = omega arith in
     let x = get_or a.s.now l.i 0 in
-    (omega arith, rw next at (wrote-is (wrote-more l.invariant.1 x (omega (arith, l.invariant.1.long))) (take_more a.s.now l.i (omega arith))))
+    (omega arith, rw next at (wrote-is (wrote-more l.invariant.1 x (omega (arith, l.invariant.1.long))) (take-more a.s.now l.i (omega arith))))
 
 pub shape_of-out : goal.shape_of-out
 shape_of-out c = c.loop-i.invariant.1.long

@@ -6,7 +6,7 @@ use lib.ListN.{length, take, get_or}
 use lib.Seq.{take_all}
 use borrow.Author.Rules.{rules}
 use Rattle.lines_buffer.specs.Texts.{Written}
-use Rattle.lines_buffer.proofs.Writes.{wrote_none, wrote-more, wrote-is, take_more}
+use Rattle.lines_buffer.proofs.Writes.{wrote-none, wrote-more, wrote-is, take-more}
 use Rattle.lines_buffer.proofs.put_text.Given as goal
 
 abbrev pub invariant-loop-i : goal.invariant-loop-i

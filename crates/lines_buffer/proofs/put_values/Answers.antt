@@ -5,13 +5,13 @@ use native.Mathlib.Omega.{arith}
 use borrow.Author.Rules.{rules}
 use Rattle.vector.specs.Lists.{first}
 use Rattle.lines_buffer.specs.Texts.{Written, valuesText}
-use Rattle.lines_buffer.proofs.Writes.{wrote_none, then, wrote-is, values-none, values-more}
+use Rattle.lines_buffer.proofs.Writes.{wrote-none, then, wrote-is, values-none, values-more}
 use Rattle.lines_buffer.proofs.put_values.Goals as goal
 
 pub loop-i-init : goal.loop-i-init
 loop-i-init c =
     let a = c.args in
-    (omega arith, omega arith, wrote-is (wrote_none a.out.now a.at) (values-none a.t3))
+    (omega arith, omega arith, wrote-is (wrote-none a.out.now a.at) (values-none a.t3))
 
 pub put_value-p-requires : goal.put_value-p-requires
 put_value-p-requires c = omega (arith, c.loop-i.invariant.2.long)

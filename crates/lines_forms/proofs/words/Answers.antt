@@ -8,7 +8,7 @@ use lib.ListN.{replicate}
 use lib.Ieee.{of_bits}
 use Rattle.float.specs.Binary64.{plusZero}
 use Rattle.vector.specs.Loops.{upto}
-use Rattle.lines_forms.specs.Lines.{value_at, words_of}
+use Rattle.lines_forms.specs.Lines.{valueAt, wordsOf}
 use Rattle.lines_forms.proofs.Values.{turn}
 use Rattle.lines_forms.proofs.words.Goals as goal
 
@@ -20,10 +20,10 @@ pub loop-i-preserved : goal.loop-i-preserved
 loop-i-preserved c =
     let a = c.args in
     let l = c.loop-i in
-    (omega arith, turn (λ k. value_at a.t1 (a.from + k)) l.i l.w c.value.result (omega arith) l.invariant.1 c.value.ensures)
+    (omega arith, turn (λ k. valueAt a.t1 (a.from + k)) l.i l.w c.value.result (omega arith) l.invariant.1 c.value.ensures)
 
 pub returns : goal.returns
-unfolding words_of
+unfolding wordsOf
 returns c =
     let l = c.loop-i in
     let end : l.i ≡ 17 = omega arith in

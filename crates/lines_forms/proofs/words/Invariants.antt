@@ -8,12 +8,12 @@ use lib.ListN.{replicate}
 use lib.Ieee.{of_bits}
 use Rattle.float.specs.Binary64.{plusZero}
 use Rattle.vector.specs.Loops.{upto}
-use Rattle.lines_forms.specs.Lines.{value_at, words_of}
+use Rattle.lines_forms.specs.Lines.{valueAt, wordsOf}
 use Rattle.lines_forms.proofs.Values.{turn}
 use Rattle.lines_forms.proofs.words.Given as goal
 
 abbrev pub invariant-loop-i : goal.invariant-loop-i
-invariant-loop-i l = (l.i ≤ 17) × (l.w ≡ upto (λ k. value_at l.fields (l.from + k)) l.i ++ replicate (17 - l.i) plusZero)
+invariant-loop-i l = (l.i ≤ 17) × (l.w ≡ upto (λ k. valueAt l.fields (l.from + k)) l.i ++ replicate (17 - l.i) plusZero)
 
 abbrev pub decreases-loop-i : goal.decreases-loop-i
 decreases-loop-i l = 17 - l.i

@@ -1,11 +1,11 @@
 -- `neldermead::taken` meets its contract: each return follows the calls and tests that led to it. Assumes nothing.
-use Rattle.neldermead.specs.Parts.{taken_of}
+use Rattle.neldermead.specs.Parts.{takenOf}
 use Rattle.neldermead.proofs.taken.Goals as goal
 
 pub returns-then-good : goal.returns-then-good
-unfolding taken_of
+unfolding takenOf
 returns-then-good c = rw c.if-good.true
 
 pub returns : goal.returns
-unfolding taken_of
+unfolding takenOf
 returns c = rw c.if-good.false

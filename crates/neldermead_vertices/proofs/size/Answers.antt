@@ -3,18 +3,18 @@ use borrow.Author.Rules.{rules}
 use mathlib.Core.Path.{refl}
 use Prim.Native.Nat.{◌-◌}
 use lib.Ieee.{of_bits}
-use Rattle.neldermead_vertices.specs.Vertices.{size_of}
+use Rattle.neldermead_vertices.specs.Vertices.{sizeOf}
 use Rattle.vector.proofs.Loops.{Made, start, carried, done}
 use Rattle.neldermead_vertices.proofs.size.Goals as goal
 
 pub loop-i-init : goal.loop-i-init
-unfolding size_of of_bits
+unfolding sizeOf of_bits
 loop-i-init c = start c.requires refl
 
 pub loop-i-preserved : goal.loop-i-preserved
-unfolding size_of of_bits
+unfolding sizeOf of_bits
 loop-i-preserved c = carried c.loop-i.invariant c.loop-i-test.true (cc)
 
 pub returns : goal.returns
-unfolding size_of of_bits
+unfolding sizeOf of_bits
 returns c = done c.loop-i.invariant c.loop-i-test.false

@@ -3,12 +3,12 @@ use borrow.Author.Rules.{rules}
 use mathlib.Core.Path.{refl}
 use Prim.Native.Nat.{◌-◌}
 use lib.Ieee.{of_bits}
-use Rattle.neldermead_vertices.specs.Vertices.{size_of}
+use Rattle.neldermead_vertices.specs.Vertices.{sizeOf}
 use Rattle.vector.proofs.Loops.{Made, start, carried, done}
 use Rattle.neldermead_vertices.proofs.size.Given as goal
 
 abbrev pub invariant-loop-i : goal.invariant-loop-i
-invariant-loop-i l = Made 16 (size_of l.v l.n) l.n l.m l.i
+invariant-loop-i l = Made 16 (sizeOf l.v l.n) l.n l.m l.i
 
 abbrev pub decreases-loop-i : goal.decreases-loop-i
 decreases-loop-i l = l.n - l.i

@@ -9,8 +9,8 @@ use mathlib.Core.Logic.{⊎_elim}
 use native.Mathlib.Omega.{arith}
 use lib.ListN.{length, length-set}
 use Rattle.neldermead_vertices.specs.declared.Vertex.{Vertex}
-use Rattle.neldermead_vertices.specs.Vertices.{put_of, insertedOf, sortedOf}
-use Rattle.neldermead_vertices.proofs.Insertion.{put-goes, put-stays, put-ends, sorted_from, sorted-starts, sorted-goes}
+use Rattle.neldermead_vertices.specs.Vertices.{putOf, insertedOf, sortedOf}
+use Rattle.neldermead_vertices.proofs.Insertion.{put-goes, put-stays, put-ends, sortedFrom, sorted-starts, sorted-goes}
 use Rattle.neldermead_vertices.proofs.sorted.Goals as goal
 use Rattle.neldermead_vertices.proofs.sorted.Goals.{else-loop-j-test, then-loop-j-test+then-not-precedes}
 
@@ -50,7 +50,7 @@ loop-i-preserved c =
     )
 
 pub returns : goal.returns
-unfolding sortedOf sorted_from
+unfolding sortedOf sortedFrom
 returns c =
     let l = c.loop-i in
     let end : l.i ≡ 0 = omega arith in

@@ -9,18 +9,18 @@ use mathlib.Core.Logic.{⊎_elim}
 use native.Mathlib.Omega.{arith}
 use lib.ListN.{length, length-set}
 use Rattle.neldermead_vertices.specs.declared.Vertex.{Vertex}
-use Rattle.neldermead_vertices.specs.Vertices.{put_of, insertedOf, sortedOf}
-use Rattle.neldermead_vertices.proofs.Insertion.{put-goes, put-stays, put-ends, sorted_from, sorted-starts, sorted-goes}
+use Rattle.neldermead_vertices.specs.Vertices.{putOf, insertedOf, sortedOf}
+use Rattle.neldermead_vertices.proofs.Insertion.{put-goes, put-stays, put-ends, sortedFrom, sorted-starts, sorted-goes}
 use Rattle.neldermead_vertices.proofs.sorted.Given as goal
 
 abbrev pub invariant-loop-j : goal.invariant-loop-j
-invariant-loop-j l = (l.j ≤ l.n) × (length l.w ≡ 17) × (put_of l.u l.w l.j l.n ≡ put_of l.u l.initial.w l.i l.n)
+invariant-loop-j l = (l.j ≤ l.n) × (length l.w ≡ 17) × (putOf l.u l.w l.j l.n ≡ putOf l.u l.initial.w l.i l.n)
 
 abbrev pub decreases-loop-j : goal.decreases-loop-j
 decreases-loop-j l = l.n - l.j
 
 abbrev pub invariant-loop-i : goal.invariant-loop-i
-invariant-loop-i l = (l.i ≤ l.n) × (length l.w ≡ 17) × (l.w ≡ sorted_from l.initial.w l.n l.i)
+invariant-loop-i l = (l.i ≤ l.n) × (length l.w ≡ 17) × (l.w ≡ sortedFrom l.initial.w l.n l.i)
 
 abbrev pub decreases-loop-i : goal.decreases-loop-i
 decreases-loop-i l = l.i

@@ -4,12 +4,12 @@ use Prim.Native.Nat.{◌-◌}
 use mathlib.Core.Path.{◌≡◌, refl, ◌∙◌}
 use lib.ListN.{length}
 use Rattle.quasinewton_limited.specs.declared.Pair.{Pair}
-use Rattle.quasinewton_limited.specs.Step.{noPair, pair_at}
+use Rattle.quasinewton_limited.specs.Step.{noPair, pairAt}
 use Rattle.optim_lists.proofs.Places.{map-places, Setting, set-starts, set-goes, set-ends}
 use Rattle.optim_store.proofs.changes_of.Given as goal
 
 abbrev pub invariant-loop-i : goal.invariant-loop-i
-invariant-loop-i l = (length l.p ≡ 16) × Setting 16 (λ j. (pair_at l.p j).y) l.initial.ys l.ys l.i
+invariant-loop-i l = (length l.p ≡ 16) × Setting 16 (λ j. (pairAt l.p j).y) l.initial.ys l.ys l.i
 
 abbrev pub decreases-loop-i : goal.decreases-loop-i
 decreases-loop-i l = 16 - l.i

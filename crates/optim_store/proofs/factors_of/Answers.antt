@@ -4,7 +4,7 @@ use Prim.Native.Nat.{◌-◌}
 use mathlib.Core.Path.{◌≡◌, refl, ◌∙◌}
 use lib.ListN.{length}
 use Rattle.quasinewton_limited.specs.declared.Pair.{Pair}
-use Rattle.quasinewton_limited.specs.Step.{noPair, pair_at}
+use Rattle.quasinewton_limited.specs.Step.{noPair, pairAt}
 use Rattle.optim_lists.proofs.Places.{map-places, Setting, set-starts, set-goes, set-ends}
 use Rattle.optim_store.proofs.factors_of.Goals as goal
 

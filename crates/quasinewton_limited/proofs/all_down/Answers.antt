@@ -4,7 +4,7 @@ use Prim.Native.Nat.{◌≤◌}
 use mathlib.Core.Path.{◌≡◌, refl, ap, ◌∙◌}
 use lib.Ieee.{of_bits}
 use Rattle.quasinewton_limited.specs.Step.{downFrom, allDownOf}
-use Rattle.quasinewton_limited.proofs.Loops.{down-goes, down_ends}
+use Rattle.quasinewton_limited.proofs.Loops.{down-goes, down-ends}
 use Rattle.quasinewton_limited.proofs.all_down.Goals as goal
 
 pub loop-i-init : goal.loop-i-init
@@ -18,4 +18,4 @@ loop-i-preserved c =
 
 pub returns : goal.returns
 unfolding allDownOf of_bits
-returns c = down_ends _ _ c.loop-i.i c.loop-i.w c.loop-i-test.false ∙ c.loop-i.invariant.1
+returns c = down-ends _ _ c.loop-i.i c.loop-i.w c.loop-i-test.false ∙ c.loop-i.invariant.1

@@ -4,7 +4,7 @@ use Prim.Native.Nat.{◌≤◌}
 use mathlib.Core.Path.{◌≡◌, refl, ap, ◌∙◌}
 use lib.Ieee.{of_bits}
 use Rattle.quasinewton_limited.specs.Step.{downFrom, allDownOf}
-use Rattle.quasinewton_limited.proofs.Loops.{down-goes, down_ends}
+use Rattle.quasinewton_limited.proofs.Loops.{down-goes, down-ends}
 use Rattle.quasinewton_limited.proofs.all_down.Given as goal
 
 abbrev pub invariant-loop-i : goal.invariant-loop-i

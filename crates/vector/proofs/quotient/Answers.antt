@@ -3,18 +3,18 @@ use borrow.Author.Rules.{rules}
 use mathlib.Core.Path.{refl}
 use Prim.Native.Nat.{◌-◌}
 use lib.Ieee.{of_bits}
-use Rattle.vector.specs.Points.{quotient_of}
+use Rattle.vector.specs.Points.{quotientOf}
 use Rattle.vector.proofs.Loops.{Made, start, filled, done}
 use Rattle.vector.proofs.quotient.Goals as goal
 
 pub loop-i-init : goal.loop-i-init
-unfolding quotient_of of_bits
+unfolding quotientOf of_bits
 loop-i-init c = start c.requires refl
 
 pub loop-i-preserved : goal.loop-i-preserved
-unfolding quotient_of of_bits
+unfolding quotientOf of_bits
 loop-i-preserved c = filled c.loop-i.invariant c.loop-i-test.true refl
 
 pub returns : goal.returns
-unfolding quotient_of of_bits
+unfolding quotientOf of_bits
 returns c = done c.loop-i.invariant c.loop-i-test.false

@@ -3,7 +3,7 @@ use borrow.Author.Rules.{rules}
 use Prim.Native.Nat.{◌-◌}
 use mathlib.Core.Path.{◌≡◌, refl, ◌∙◌}
 use lib.ListN.{length}
-use Rattle.optim_lists.proofs.Places.{pair_of, pairs-places, Setting, set-starts, set-goes, set-ends}
+use Rattle.optim_lists.proofs.Places.{pairOf, pairs-places, Setting, set-starts, set-goes, set-ends}
 use Rattle.optim_load.proofs.parts.pairs.Goals as goal
 
 pub loop-i-init : goal.loop-i-init
