@@ -26,8 +26,8 @@ fn replied(r: Record, why: u64) -> Spoken
 // answer returns the very record that was passed. One record is kept and parts of it are replaced, so that
 // it is copied no more than its passing asks for; a gradient fit that still asks has no use for its model.
 pub fn answer(r: Record, number: u64, kind: u8, words: &[f64]) -> Answered
-    ensures result_value { outcomeOf result ≡ answerOf r number kind words.now }
-    ensures result_value_2 { spokenIn result ≡ spokenBy (answerOf r number kind words.now) }
+    ensures outcome { outcomeOf result ≡ answerOf r number kind words.now }
+    ensures spoken { spokenIn result ≡ spokenBy (answerOf r number kind words.now) }
 {
     let mut q = r;
     let why = optim_rules::meets(q, number, kind, words.len());

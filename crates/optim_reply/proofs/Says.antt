@@ -97,5 +97,5 @@ pub says : (a : Answered) (s : Spoken) (r : Record) → (outcomeOf a ≡ replyWi
 says a s r e h = (e.0 ∙ ap (λ (t : Spoken). replyWith t r) h ∙ spoken-stands r, e.1 ∙ h ∙ stands-spoken r)
 
 -- and one that says y says z, which is y
-pub says-also : (a : Answered) (y z : Reply × Record) → (outcomeOf a ≡ y) × (spokenIn a ≡ spokenBy y) → y ≡ z → (outcomeOf a ≡ z) × (spokenIn a ≡ spokenBy z)
-says-also a y z e h = (e.0 ∙ h, e.1 ∙ ap spokenBy h)
+pub says-also : (a : Answered) (y z : Reply × Record) → (outcomeOf a ≡ y) × (spokenIn a ≡ spokenBy y) → y ≡ z → record { outcome : outcomeOf a ≡ z; spoken : spokenIn a ≡ spokenBy z }
+says-also a y z e h = record { outcome = e.0 ∙ h; spoken = e.1 ∙ ap spokenBy h }

@@ -43,8 +43,8 @@ fn differences_opened(r: Record) -> Spoken
 // Starts central differences at x. A list of more than sixteen is refused with 2; of none it ends at
 // once with an empty gradient.
 pub fn differences(x: &[f64]) -> Answered
-    ensures result_value { outcomeOf result ≡ differencesOf x.now }
-    ensures result_value_2 { spokenIn result ≡ spokenBy (differencesOf x.now) }
+    ensures outcome { outcomeOf result ≡ differencesOf x.now }
+    ensures spoken { spokenIn result ≡ spokenBy (differencesOf x.now) }
 {
     if 16 < x.len() {
         return refused(2, 0);
@@ -56,8 +56,8 @@ pub fn differences(x: &[f64]) -> Answered
 
 // Starts a simplex fit at x. It is refused with 2, 4, 8, 9 or 12, looked for in that order.
 pub fn simplex(x: &[f64], o: SimplexOptions, a: Allowances) -> Answered
-    ensures result_value { outcomeOf result ≡ simplexOf x.now o a }
-    ensures result_value_2 { spokenIn result ≡ spokenBy (simplexOf x.now o a) }
+    ensures outcome { outcomeOf result ≡ simplexOf x.now o a }
+    ensures spoken { spokenIn result ≡ spokenBy (simplexOf x.now o a) }
 {
     let n = x.len();
     let why = optim_first_record::simplex_refusal(n, o, a);
@@ -84,8 +84,8 @@ pub fn search(
     o: WolfeOptions,
     gradients: bool,
 ) -> Answered
-    ensures result_value { outcomeOf result ≡ searchOf x.now d.now f0 g.now step o gradients }
-    ensures result_value_2 { spokenIn result ≡ spokenBy (searchOf x.now d.now f0 g.now step o gradients) }
+    ensures outcome { outcomeOf result ≡ searchOf x.now d.now f0 g.now step o gradients }
+    ensures spoken { spokenIn result ≡ spokenBy (searchOf x.now d.now f0 g.now step o gradients) }
 {
     let n = x.len();
     let why = optim_first_record::search_refusal(n, d.len(), g.len(), o);
@@ -107,8 +107,8 @@ pub fn search(
 
 // Starts a gradient fit at x, lbfgs where `limited`.
 fn gradient(x: &[f64], o: GradientOptions, a: Allowances, limited: bool) -> Answered
-    ensures result_value { outcomeOf result ≡ gradientOf x.now o a limited }
-    ensures result_value_2 { spokenIn result ≡ spokenBy (gradientOf x.now o a limited) }
+    ensures outcome { outcomeOf result ≡ gradientOf x.now o a limited }
+    ensures spoken { spokenIn result ≡ spokenBy (gradientOf x.now o a limited) }
 {
     let n = x.len();
     let why = optim_first_record::gradient_refusal(n, o, a, limited);
@@ -127,16 +127,16 @@ fn gradient(x: &[f64], o: GradientOptions, a: Allowances, limited: bool) -> Answ
 // Starts a fit by bfgs at x; its memory is passed over. It is refused with 2, 4, 5, 9 or 12, looked for in
 // that order.
 pub fn bfgs(x: &[f64], o: GradientOptions, a: Allowances) -> Answered
-    ensures result_value { outcomeOf result ≡ bfgsOf x.now o a }
-    ensures result_value_2 { spokenIn result ≡ spokenBy (bfgsOf x.now o a) }
+    ensures outcome { outcomeOf result ≡ bfgsOf x.now o a }
+    ensures spoken { spokenIn result ≡ spokenBy (bfgsOf x.now o a) }
 {
     gradient(x, o, a, false)
 }
 
 // Starts a fit by lbfgs at x. It is refused with 2, 3, 4, 5, 9 or 12, looked for in that order.
 pub fn lbfgs(x: &[f64], o: GradientOptions, a: Allowances) -> Answered
-    ensures result_value { outcomeOf result ≡ lbfgsOf x.now o a }
-    ensures result_value_2 { spokenIn result ≡ spokenBy (lbfgsOf x.now o a) }
+    ensures outcome { outcomeOf result ≡ lbfgsOf x.now o a }
+    ensures spoken { spokenIn result ≡ spokenBy (lbfgsOf x.now o a) }
 {
     gradient(x, o, a, true)
 }

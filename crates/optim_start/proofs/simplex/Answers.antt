@@ -33,7 +33,9 @@ returns-then-not-all_finite c =
 
 pub simplex_record-r-requires : goal.simplex_record-r-requires
 unfolding simplexOf
-simplex_record-r-requires c = (simplex-limits (length c.args.x.now) c.args.o c.args.a (sym (ap (λ (w : Refusal). w.number) c.simplex_refusal-why.ensures) ∙ c.if-why-ne0.false))
+simplex_record-r-requires c =
+    let h = simplex-limits (length c.args.x.now) c.args.o c.args.a (sym (ap (λ (w : Refusal). w.number) c.simplex_refusal-why.ensures) ∙ c.if-why-ne0.false) in
+    record { n_bound = h.0; restarts_bound = h.1 }
 
 pub asks-s-requires : goal.asks-s-requires
 unfolding simplexOf
