@@ -48,6 +48,7 @@ other-job r h o = go h.marks.job
     go (inr (inr (inl j))) = absurd (true≢false (sym (ap gradientJobOf j) ∙ o.gradient))
     go (inr (inr (inr (inl j)))) = absurd (o.search j)
     go (inr (inr (inr (inr (inl j))))) = j
+    go (inr (inr (inr (inr (inr x))))) = elim x [ ]
 
 pub ranges : (r : Record) → validOf r ≡ true → Ranges r
 ranges r e =

@@ -5,7 +5,12 @@ use Rattle.optim_rules.proofs.simplex_told.Goals as goal
 
 pub told-requires : goal.told-requires
 unfolding simplexToldOf
-told-requires c = rw c.fixed-fixed.ensures (c.requires.ranges.some c.requires.job_value, (c.requires.ranges.few, c.requires.ranges.vertex c.requires.job_value))
+told-requires c =
+    rw c.fixed-fixed.ensures (record {
+      n_nonzero = c.requires.ranges.some c.requires.job_value;
+      n_bound = c.requires.ranges.few;
+      at_le_n = c.requires.ranges.vertex c.requires.job_value;
+    })
 
 pub returns : goal.returns
 unfolding simplexToldOf
