@@ -105,6 +105,7 @@ known-ends k d e = go ((known k d).0 e)
         others (inr (inr (inr (inl i)))) = at 14 refl i
         others (inr (inr (inr (inr (inl i))))) = at 18 refl i
         others (inr (inr (inr (inr (inr (inl i)))))) = at 19 refl i
+        others (inr (inr (inr (inr (inr (inr x)))))) = elim x [ ]
 
 known-fine : (r q : Record) (k d : ℕ) → knownRefusalOf k d ≡ true → Fine r (refused k d, q)
 known-fine r q k d e = ending r q k d (first (knownRefusalOf k d) _ e) (known-ends k d e)

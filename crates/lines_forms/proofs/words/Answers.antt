@@ -20,7 +20,7 @@ pub loop-i-preserved : goal.loop-i-preserved
 loop-i-preserved c =
     let a = c.args in
     let l = c.loop-i in
-    (omega arith, turn (λ k. valueAt a.t1 (a.from + k)) l.i l.w c.value.result (omega arith) l.invariant.1 c.value.ensures)
+    (omega arith, turn (λ k. valueAt a.fields (a.from + k)) l.i l.w c.value.result (omega arith) l.invariant.1 c.value.ensures)
 
 pub returns : goal.returns
 unfolding wordsOf

@@ -16,4 +16,4 @@ pub returns : goal.returns
 returns c =
     let a = c.args in
     let made = c.loop-i.invariant in
-    set-ends made.3 c.loop-i-test.false ∙ pairs-places a.t1 a.t2 a.t3 made.0 made.1 made.2
+    set-ends made.3 c.loop-i-test.false ∙ pairs-places a.ss a.ys a.rs made.0 made.1 made.2

@@ -16,4 +16,4 @@ pub returns : goal.returns
 returns c =
     let a = c.args in
     let made = c.loop-i.invariant in
-    set-ends made.2 c.loop-i-test.false ∙ vertices-places a.t1 a.t2 made.0 made.1
+    set-ends made.2 c.loop-i-test.false ∙ vertices-places a.xs a.fs made.0 made.1
