@@ -6,10 +6,7 @@ use Rattle.quasinewton_limited.specs.declared.Pair.{Pair}
 use Rattle.optim_lists.specs.Lists.{modelFrom}
 use Rattle.optim_load.proofs.load_model.Goals as goal
 
-abbrev S : tie.After-model → tie.Start
-S c = c.before.before.before.before.before.before
-
 pub returns : goal.returns
 returns c =
-    let a = (S c).args in
+    let a = c.args in
     c.model.ensures ∙ ap (λ (p : List Pair). modelFrom a.m.now a.w.now a.h.now p) c.pairs-p.ensures

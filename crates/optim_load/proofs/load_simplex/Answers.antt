@@ -6,10 +6,7 @@ use Rattle.neldermead_vertices.specs.declared.Vertex.{Vertex}
 use Rattle.optim_lists.specs.Lists.{simplexFrom}
 use Rattle.optim_load.proofs.load_simplex.Goals as goal
 
-abbrev S : tie.After-simplex → tie.Start
-S c = c.before.before.before.before.before.before.before.before
-
 pub returns : goal.returns
 returns c =
-    let a = (S c).args in
+    let a = c.args in
     c.simplex.ensures ∙ ap (λ (v : List Vertex). simplexFrom a.m.now a.w.now a.sx.now a.best.now a.centroid.now a.reflected.now v) c.vertices-v.ensures

@@ -6,7 +6,7 @@ use lib.ListN.{length}
 use Rattle.neldermead_vertices.specs.declared.Vertex.{Vertex}
 use Rattle.neldermead_vertices.specs.Vertices.{noVertex, vertexAt}
 use Rattle.optim_lists.proofs.Places.{map-places, Setting, set-starts, set-goes, set-ends}
-use Rattle.optim_store.proofs.pointsOf.Goals as goal
+use Rattle.optim_store.proofs.points_of.Goals as goal
 
 pub loop-i-init : goal.loop-i-init
 loop-i-init c = (search rules, set-starts refl)

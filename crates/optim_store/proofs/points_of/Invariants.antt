@@ -6,7 +6,7 @@ use lib.ListN.{length}
 use Rattle.neldermead_vertices.specs.declared.Vertex.{Vertex}
 use Rattle.neldermead_vertices.specs.Vertices.{noVertex, vertexAt}
 use Rattle.optim_lists.proofs.Places.{map-places, Setting, set-starts, set-goes, set-ends}
-use Rattle.optim_store.proofs.pointsOf.Given as goal
+use Rattle.optim_store.proofs.points_of.Given as goal
 
 abbrev pub invariant-loop-i : goal.invariant-loop-i
 invariant-loop-i l = (length l.v ≡ 17) × Setting 17 (λ j. (vertexAt l.v j).x) l.initial.xs l.xs l.i

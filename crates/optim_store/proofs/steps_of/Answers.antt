@@ -6,7 +6,7 @@ use lib.ListN.{length}
 use Rattle.quasinewton_limited.specs.declared.Pair.{Pair}
 use Rattle.quasinewton_limited.specs.Step.{noPair, pairAt}
 use Rattle.optim_lists.proofs.Places.{map-places, Setting, set-starts, set-goes, set-ends}
-use Rattle.optim_store.proofs.stepsOf.Goals as goal
+use Rattle.optim_store.proofs.steps_of.Goals as goal
 
 pub loop-i-init : goal.loop-i-init
 loop-i-init c = (search rules, set-starts refl)
