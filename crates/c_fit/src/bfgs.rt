@@ -40,9 +40,9 @@ pub extern "C" fn fit_record_bfgs(
     point: &mut [f64; 16],
     slopes: &mut [f64; 16],
 ) -> Reply
-    ensures factors_after { (result, lists m.new w.new dx.new dg.new sx.new best.new centroid.new reflected.new points.new values.new lx.new lg.new ld.new tx.new tg.new ex.new eg.new ix.new ig.new h.new steps.new changes.new factors.new) ≡ handedOf (startedOf (bfgsOf x.now (toGradientOf o) (toAllowancesOf a))) }
-    ensures point_after { point.new ≡ pointAfter (startedOf (bfgsOf x.now (toGradientOf o) (toAllowancesOf a))) point.old }
-    ensures slopes_after { slopes.new ≡ slopesAfter (startedOf (bfgsOf x.now (toGradientOf o) (toAllowancesOf a))) slopes.old }
+    ensures outcome { (result, lists m.new w.new dx.new dg.new sx.new best.new centroid.new reflected.new points.new values.new lx.new lg.new ld.new tx.new tg.new ex.new eg.new ix.new ig.new h.new steps.new changes.new factors.new) ≡ handedOf (startedOf (bfgsOf x.now (toGradientOf o) (toAllowancesOf a))) }
+    ensures said_point { point.new ≡ pointAfter (startedOf (bfgsOf x.now (toGradientOf o) (toAllowancesOf a))) point.old }
+    ensures said_slopes { slopes.new ≡ slopesAfter (startedOf (bfgsOf x.now (toGradientOf o) (toAllowancesOf a))) slopes.old }
 {
     let options = to_gradient(o);
     let both = to_allowances(a);

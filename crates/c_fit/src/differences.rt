@@ -37,9 +37,9 @@ pub extern "C" fn fit_record_differences(
     point: &mut [f64; 16],
     slopes: &mut [f64; 16],
 ) -> Reply
-    ensures factors_after { (result, lists m.new w.new dx.new dg.new sx.new best.new centroid.new reflected.new points.new values.new lx.new lg.new ld.new tx.new tg.new ex.new eg.new ix.new ig.new h.new steps.new changes.new factors.new) ≡ handedOf (startedOf (differencesOf x.now)) }
-    ensures point_after { point.new ≡ pointAfter (startedOf (differencesOf x.now)) point.old }
-    ensures slopes_after { slopes.new ≡ slopesAfter (startedOf (differencesOf x.now)) slopes.old }
+    ensures outcome { (result, lists m.new w.new dx.new dg.new sx.new best.new centroid.new reflected.new points.new values.new lx.new lg.new ld.new tx.new tg.new ex.new eg.new ix.new ig.new h.new steps.new changes.new factors.new) ≡ handedOf (startedOf (differencesOf x.now)) }
+    ensures said_point { point.new ≡ pointAfter (startedOf (differencesOf x.now)) point.old }
+    ensures said_slopes { slopes.new ≡ slopesAfter (startedOf (differencesOf x.now)) slopes.old }
 {
     let said = optim_lent::differences(
         m, w, dx, dg, sx, best, centroid, reflected, points, values, lx, lg, ld, tx, tg, ex, eg,

@@ -44,9 +44,9 @@ pub extern "C" fn fit_record_search(
     point: &mut [f64; 16],
     slopes: &mut [f64; 16],
 ) -> Reply
-    ensures factors_after { (result, lists m.new w.new dx.new dg.new sx.new best.new centroid.new reflected.new points.new values.new lx.new lg.new ld.new tx.new tg.new ex.new eg.new ix.new ig.new h.new steps.new changes.new factors.new) ≡ handedOf (startedOf (searchOf x.now d.now f0 g.now step (toWolfeOf o) gradients)) }
-    ensures point_after { point.new ≡ pointAfter (startedOf (searchOf x.now d.now f0 g.now step (toWolfeOf o) gradients)) point.old }
-    ensures slopes_after { slopes.new ≡ slopesAfter (startedOf (searchOf x.now d.now f0 g.now step (toWolfeOf o) gradients)) slopes.old }
+    ensures outcome { (result, lists m.new w.new dx.new dg.new sx.new best.new centroid.new reflected.new points.new values.new lx.new lg.new ld.new tx.new tg.new ex.new eg.new ix.new ig.new h.new steps.new changes.new factors.new) ≡ handedOf (startedOf (searchOf x.now d.now f0 g.now step (toWolfeOf o) gradients)) }
+    ensures said_point { point.new ≡ pointAfter (startedOf (searchOf x.now d.now f0 g.now step (toWolfeOf o) gradients)) point.old }
+    ensures said_slopes { slopes.new ≡ slopesAfter (startedOf (searchOf x.now d.now f0 g.now step (toWolfeOf o) gradients)) slopes.old }
 {
     let options = to_wolfe(o);
     let said = optim_lent::search(

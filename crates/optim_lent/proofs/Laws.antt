@@ -8,7 +8,7 @@ use lib.Dec.{leb}
 use lib.ListN.{length, get_or, drop, drop_of_length-le}
 use lib.Seq.{drop-cons}
 use lib.Ieee.{Float}
-use borrow.Author.Tests.{le-leb, lt-leb, eq-eqb, ne_eqb, not-false}
+use borrow.Author.Tests.{le-leb, lt-leb, eq-eqb, ne_eqb}
 use Rattle.protocol.specs.declared.Said.TheVariants.{Refused}
 use Rattle.protocol.specs.Protocol.{Reply, replyOf}
 use Rattle.optim_record.specs.declared.Record.{Record}
@@ -40,12 +40,12 @@ flags-end ms i h = ap flagsOnly (drop_of_length-le ms {i = i} h)
 
 module _ (l : Lists) (number kind : ℕ) (words : List Float) where
   -- a flag is an unknown mark
-  pub answer-unknown : (p q : List Float) (b : Bool) → b ≡ flagsOnly (drop place.flags l.marks) → not b ≡ true → Leaves (Refused 1 0) l p q p q (answeredOf l number kind words)
+  pub answer-unknown : (p q : List Float) (b : Bool) → b ≡ flagsOnly (drop place.flags l.marks) → b ≡ false → Leaves (Refused 1 0) l p q p q (answeredOf l number kind words)
   unfolding formedOf replyOf pointWith slopesWith
-  answer-unknown p q true e t = absurd (true≢false (sym t))
+  answer-unknown p q true e t = absurd (true≢false t)
   answer-unknown p q false e t = subst (Leaves (Refused 1 0) l p q p q) (sym (unknown-flag l number kind words (sym e))) (record { outcome = refl; point = refl; slopes = refl })
 
-  module _ (a : Answered) (r : Record) (p q : List Float) {p' q' : List Float} (b : Bool) (eb : b ≡ flagsOnly (drop place.flags l.marks)) (fine : not b ≡ false) (er : r ≡ recordOf l)
+  module _ (a : Answered) (r : Record) (p q : List Float) {p' q' : List Float} (b : Bool) (eb : b ≡ flagsOnly (drop place.flags l.marks)) (fine : b ≡ true) (er : r ≡ recordOf l)
       (ea : outcomeOf a ≡ answerOf r number kind words) (es : spokenIn a ≡ spokenBy (answerOf r number kind words))
       (ep : p' ≡ pointWith (replyOf a.said 0 a.x a.g) a.x p) (eq : q' ≡ slopesWith (replyOf a.said 0 a.x a.g) a.g q) where
     abbrev A : Reply × Record
@@ -53,7 +53,7 @@ module _ (l : Lists) (number kind : ℕ) (words : List Float) where
 
     known : formedOf l ≡ true
     unfolding formedOf
-    known = sym eb ∙ not-false b fine
+    known = sym eb ∙ fine
 
     outcome-is : outcomeOf a ≡ A
     outcome-is = ea ∙ ap (λ (k : Record). answerOf k number kind words) er

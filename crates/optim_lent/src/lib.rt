@@ -56,9 +56,9 @@ pub fn answer(
     point: &mut [f64; 16],
     slopes: &mut [f64; 16],
 ) -> Said
-    ensures factors_after { (replyOf result (mark m.new place.n) point.new slopes.new, lists m.new w.new dx.new dg.new sx.new best.new centroid.new reflected.new points.new values.new lx.new lg.new ld.new tx.new tg.new ex.new eg.new ix.new ig.new h.new steps.new changes.new factors.new) ≡ answeredOf (lists m.old w.old dx.old dg.old sx.old best.old centroid.old reflected.old points.old values.old lx.old lg.old ld.old tx.old tg.old ex.old eg.old ix.old ig.old h.old steps.old changes.old factors.old) number kind words.now }
-    ensures point_after { point.new ≡ pointAfter (answeredOf (lists m.old w.old dx.old dg.old sx.old best.old centroid.old reflected.old points.old values.old lx.old lg.old ld.old tx.old tg.old ex.old eg.old ix.old ig.old h.old steps.old changes.old factors.old) number kind words.now) point.old }
-    ensures slopes_after { slopes.new ≡ slopesAfter (answeredOf (lists m.old w.old dx.old dg.old sx.old best.old centroid.old reflected.old points.old values.old lx.old lg.old ld.old tx.old tg.old ex.old eg.old ix.old ig.old h.old steps.old changes.old factors.old) number kind words.now) slopes.old }
+    ensures outcome { (replyOf result (mark m.new place.n) point.new slopes.new, lists m.new w.new dx.new dg.new sx.new best.new centroid.new reflected.new points.new values.new lx.new lg.new ld.new tx.new tg.new ex.new eg.new ix.new ig.new h.new steps.new changes.new factors.new) ≡ answeredOf (lists m.old w.old dx.old dg.old sx.old best.old centroid.old reflected.old points.old values.old lx.old lg.old ld.old tx.old tg.old ex.old eg.old ix.old ig.old h.old steps.old changes.old factors.old) number kind words.now }
+    ensures said_point { point.new ≡ pointAfter (answeredOf (lists m.old w.old dx.old dg.old sx.old best.old centroid.old reflected.old points.old values.old lx.old lg.old ld.old tx.old tg.old ex.old eg.old ix.old ig.old h.old steps.old changes.old factors.old) number kind words.now) point.old }
+    ensures said_slopes { slopes.new ≡ slopesAfter (answeredOf (lists m.old w.old dx.old dg.old sx.old best.old centroid.old reflected.old points.old values.old lx.old lg.old ld.old tx.old tg.old ex.old eg.old ix.old ig.old h.old steps.old changes.old factors.old) number kind words.now) slopes.old }
 {
     let flags = *m;
     if !formed(flags) {

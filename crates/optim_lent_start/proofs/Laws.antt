@@ -106,7 +106,10 @@ module _ (a : Answered) (y : Reply × Record) (p q : List Float) {p' q' : List F
       also : Leaves a.said l p q p' q' (y.0, l) → Leaves a.said l p q p' q' (startedOf y)
       also = subst (λ (k : Lists). Leaves a.said l p q p' q' (y.0, k)) (h ∙ ap listsOf next-is)
 
+-- what the contract of a start says
+abbrev pub Started : Reply × Lists → List Float → List Float → List Float → List Float → Reply × Record → Type 0
+Started o p' q' p q y = record { outcome : o ≡ startedOf y; said_point : p' ≡ pointAfter (startedOf y) p; said_slopes : q' ≡ slopesAfter (startedOf y) q }
+
 -- and one that is the start z
-pub start-as : {o : Reply × Lists} {p' q' : List Float} (p q : List Float) (y z : Reply × Record) → y ≡ z
-    → (o ≡ startedOf y) × ((p' ≡ pointAfter (startedOf y) p) × (q' ≡ slopesAfter (startedOf y) q)) → (o ≡ startedOf z) × ((p' ≡ pointAfter (startedOf z) p) × (q' ≡ slopesAfter (startedOf z) q))
-start-as {o} {p'} {q'} p q y z e = subst (λ (w : Reply × Record). (o ≡ startedOf w) × ((p' ≡ pointAfter (startedOf w) p) × (q' ≡ slopesAfter (startedOf w) q))) e
+pub start-as : {o : Reply × Lists} {p' q' : List Float} (p q : List Float) (y z : Reply × Record) → y ≡ z → Started o p' q' p q y → Started o p' q' p q z
+start-as {o} {p'} {q'} p q y z e = subst (Started o p' q' p q) e

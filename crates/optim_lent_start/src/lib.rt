@@ -43,9 +43,9 @@ pub fn simplex(
     point: &mut [f64; 16],
     slopes: &mut [f64; 16],
 ) -> Said
-    ensures factors_after { (replyOf result (mark m.new place.n) point.new slopes.new, lists m.new w.new dx.new dg.new sx.new best.new centroid.new reflected.new points.new values.new lx.new lg.new ld.new tx.new tg.new ex.new eg.new ix.new ig.new h.new steps.new changes.new factors.new) ≡ startedOf (simplexOf x.now o a) }
-    ensures point_after { point.new ≡ pointAfter (startedOf (simplexOf x.now o a)) point.old }
-    ensures slopes_after { slopes.new ≡ slopesAfter (startedOf (simplexOf x.now o a)) slopes.old }
+    ensures outcome { (replyOf result (mark m.new place.n) point.new slopes.new, lists m.new w.new dx.new dg.new sx.new best.new centroid.new reflected.new points.new values.new lx.new lg.new ld.new tx.new tg.new ex.new eg.new ix.new ig.new h.new steps.new changes.new factors.new) ≡ startedOf (simplexOf x.now o a) }
+    ensures said_point { point.new ≡ pointAfter (startedOf (simplexOf x.now o a)) point.old }
+    ensures said_slopes { slopes.new ≡ slopesAfter (startedOf (simplexOf x.now o a)) slopes.old }
 {
     let begun = optim::simplex(x, o, a);
     reply::opened(
@@ -85,9 +85,9 @@ pub fn bfgs(
     point: &mut [f64; 16],
     slopes: &mut [f64; 16],
 ) -> Said
-    ensures factors_after { (replyOf result (mark m.new place.n) point.new slopes.new, lists m.new w.new dx.new dg.new sx.new best.new centroid.new reflected.new points.new values.new lx.new lg.new ld.new tx.new tg.new ex.new eg.new ix.new ig.new h.new steps.new changes.new factors.new) ≡ startedOf (bfgsOf x.now o a) }
-    ensures point_after { point.new ≡ pointAfter (startedOf (bfgsOf x.now o a)) point.old }
-    ensures slopes_after { slopes.new ≡ slopesAfter (startedOf (bfgsOf x.now o a)) slopes.old }
+    ensures outcome { (replyOf result (mark m.new place.n) point.new slopes.new, lists m.new w.new dx.new dg.new sx.new best.new centroid.new reflected.new points.new values.new lx.new lg.new ld.new tx.new tg.new ex.new eg.new ix.new ig.new h.new steps.new changes.new factors.new) ≡ startedOf (bfgsOf x.now o a) }
+    ensures said_point { point.new ≡ pointAfter (startedOf (bfgsOf x.now o a)) point.old }
+    ensures said_slopes { slopes.new ≡ slopesAfter (startedOf (bfgsOf x.now o a)) slopes.old }
 {
     let begun = optim::bfgs(x, o, a);
     reply::opened(
@@ -127,9 +127,9 @@ pub fn lbfgs(
     point: &mut [f64; 16],
     slopes: &mut [f64; 16],
 ) -> Said
-    ensures factors_after { (replyOf result (mark m.new place.n) point.new slopes.new, lists m.new w.new dx.new dg.new sx.new best.new centroid.new reflected.new points.new values.new lx.new lg.new ld.new tx.new tg.new ex.new eg.new ix.new ig.new h.new steps.new changes.new factors.new) ≡ startedOf (lbfgsOf x.now o a) }
-    ensures point_after { point.new ≡ pointAfter (startedOf (lbfgsOf x.now o a)) point.old }
-    ensures slopes_after { slopes.new ≡ slopesAfter (startedOf (lbfgsOf x.now o a)) slopes.old }
+    ensures outcome { (replyOf result (mark m.new place.n) point.new slopes.new, lists m.new w.new dx.new dg.new sx.new best.new centroid.new reflected.new points.new values.new lx.new lg.new ld.new tx.new tg.new ex.new eg.new ix.new ig.new h.new steps.new changes.new factors.new) ≡ startedOf (lbfgsOf x.now o a) }
+    ensures said_point { point.new ≡ pointAfter (startedOf (lbfgsOf x.now o a)) point.old }
+    ensures said_slopes { slopes.new ≡ slopesAfter (startedOf (lbfgsOf x.now o a)) slopes.old }
 {
     let begun = optim::lbfgs(x, o, a);
     reply::opened(
@@ -174,9 +174,9 @@ pub fn search(
     point: &mut [f64; 16],
     slopes: &mut [f64; 16],
 ) -> Said
-    ensures factors_after { (replyOf result (mark m.new place.n) point.new slopes.new, lists m.new w.new dx.new dg.new sx.new best.new centroid.new reflected.new points.new values.new lx.new lg.new ld.new tx.new tg.new ex.new eg.new ix.new ig.new h.new steps.new changes.new factors.new) ≡ startedOf (searchOf x.now d.now f0 g.now step o gradients) }
-    ensures point_after { point.new ≡ pointAfter (startedOf (searchOf x.now d.now f0 g.now step o gradients)) point.old }
-    ensures slopes_after { slopes.new ≡ slopesAfter (startedOf (searchOf x.now d.now f0 g.now step o gradients)) slopes.old }
+    ensures outcome { (replyOf result (mark m.new place.n) point.new slopes.new, lists m.new w.new dx.new dg.new sx.new best.new centroid.new reflected.new points.new values.new lx.new lg.new ld.new tx.new tg.new ex.new eg.new ix.new ig.new h.new steps.new changes.new factors.new) ≡ startedOf (searchOf x.now d.now f0 g.now step o gradients) }
+    ensures said_point { point.new ≡ pointAfter (startedOf (searchOf x.now d.now f0 g.now step o gradients)) point.old }
+    ensures said_slopes { slopes.new ≡ slopesAfter (startedOf (searchOf x.now d.now f0 g.now step o gradients)) slopes.old }
 {
     let begun = optim::search(x, d, f0, g, step, o, gradients);
     reply::opened(
@@ -214,9 +214,9 @@ pub fn differences(
     point: &mut [f64; 16],
     slopes: &mut [f64; 16],
 ) -> Said
-    ensures factors_after { (replyOf result (mark m.new place.n) point.new slopes.new, lists m.new w.new dx.new dg.new sx.new best.new centroid.new reflected.new points.new values.new lx.new lg.new ld.new tx.new tg.new ex.new eg.new ix.new ig.new h.new steps.new changes.new factors.new) ≡ startedOf (differencesOf x.now) }
-    ensures point_after { point.new ≡ pointAfter (startedOf (differencesOf x.now)) point.old }
-    ensures slopes_after { slopes.new ≡ slopesAfter (startedOf (differencesOf x.now)) slopes.old }
+    ensures outcome { (replyOf result (mark m.new place.n) point.new slopes.new, lists m.new w.new dx.new dg.new sx.new best.new centroid.new reflected.new points.new values.new lx.new lg.new ld.new tx.new tg.new ex.new eg.new ix.new ig.new h.new steps.new changes.new factors.new) ≡ startedOf (differencesOf x.now) }
+    ensures said_point { point.new ≡ pointAfter (startedOf (differencesOf x.now)) point.old }
+    ensures said_slopes { slopes.new ≡ slopesAfter (startedOf (differencesOf x.now)) slopes.old }
 {
     let begun = optim::differences(x);
     reply::opened(

@@ -11,9 +11,10 @@ use optim_record::Answered;
 use protocol::Said;
 
 // The point and the gradient of which a reply speaks.
+#[tactic(auto, unfolding(protocol::specs::Protocol::replyOf, optim_lists::specs::Answered::pointWith, optim_lists::specs::Answered::slopesWith))]
 pub fn speak(said: Said, x: [f64; 16], g: [f64; 16], point: &mut [f64; 16], slopes: &mut [f64; 16])
-    ensures point_after { point.new ≡ pointWith (replyOf said 0 x g) x point.old }
-    ensures slopes_after { slopes.new ≡ slopesWith (replyOf said 0 x g) g slopes.old }
+    ensures said_point { point.new ≡ pointWith (replyOf said 0 x g) x point.old }
+    ensures said_slopes { slopes.new ≡ slopesWith (replyOf said 0 x g) g slopes.old }
 {
     match said {
         Said::Ask(_, _) => {
@@ -64,9 +65,9 @@ pub fn opened(
     slopes: &mut [f64; 16],
 ) -> Said
     requires { spokenIn a ≡ spokenBy (outcomeOf a) }
-    ensures factors_after { (replyOf result (mark m.new place.n) point.new slopes.new, lists m.new w.new dx.new dg.new sx.new best.new centroid.new reflected.new points.new values.new lx.new lg.new ld.new tx.new tg.new ex.new eg.new ix.new ig.new h.new steps.new changes.new factors.new) ≡ startedOf (outcomeOf a) }
-    ensures point_after { point.new ≡ pointAfter (startedOf (outcomeOf a)) point.old }
-    ensures slopes_after { slopes.new ≡ slopesAfter (startedOf (outcomeOf a)) slopes.old }
+    ensures outcome { (replyOf result (mark m.new place.n) point.new slopes.new, lists m.new w.new dx.new dg.new sx.new best.new centroid.new reflected.new points.new values.new lx.new lg.new ld.new tx.new tg.new ex.new eg.new ix.new ig.new h.new steps.new changes.new factors.new) ≡ startedOf (outcomeOf a) }
+    ensures said_point { point.new ≡ pointAfter (startedOf (outcomeOf a)) point.old }
+    ensures said_slopes { slopes.new ≡ slopesAfter (startedOf (outcomeOf a)) slopes.old }
 {
     let said = a.said;
     let x = a.x;

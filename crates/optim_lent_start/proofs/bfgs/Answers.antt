@@ -5,15 +5,10 @@ use Rattle.optim_reply.specs.Spoken.{spokenBy}
 use Rattle.optim_lent_start.proofs.Laws.{start-as}
 use Rattle.optim_lent_start.proofs.bfgs.Goals as goal
 
--- the start is made; each list is lent on
-abbrev begun : tie.After-opened-arg25 → tie.After-bfgs
-begun c = c.before.before.before.before.before.before.before.before.before.before.before.before.before.before.before.before.before.before.before.before.before.before.before.before.before
-
 pub opened-requires : goal.opened-requires
-opened-requires c = (begun c).bfgs.ensures.1 ∙ ap spokenBy (sym (begun c).bfgs.ensures.0)
+opened-requires c = c.bfgs-begun.ensures.spoken ∙ ap spokenBy (sym c.bfgs-begun.ensures.outcome)
 
 pub returns : goal.returns
 returns c =
-    let k = begun c in
-    let a = k.before.before.args in
-    start-as a.point.now a.slopes.now _ _ k.bfgs.ensures.0 c.opened.ensures
+    let a = c.args in
+    start-as a.point.now a.slopes.now _ _ c.bfgs-begun.ensures.outcome c.opened.ensures

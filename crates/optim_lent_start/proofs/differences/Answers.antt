@@ -5,15 +5,10 @@ use Rattle.optim_reply.specs.Spoken.{spokenBy}
 use Rattle.optim_lent_start.proofs.Laws.{start-as}
 use Rattle.optim_lent_start.proofs.differences.Goals as goal
 
--- the start is made; each list is lent on
-abbrev begun : tie.After-opened-arg25 → tie.After-differences
-begun c = c.before.before.before.before.before.before.before.before.before.before.before.before.before.before.before.before.before.before.before.before.before.before.before.before.before
-
 pub opened-requires : goal.opened-requires
-opened-requires c = (begun c).differences.ensures.1 ∙ ap spokenBy (sym (begun c).differences.ensures.0)
+opened-requires c = c.differences-begun.ensures.spoken ∙ ap spokenBy (sym c.differences-begun.ensures.outcome)
 
 pub returns : goal.returns
 returns c =
-    let k = begun c in
-    let a = k.before.before.args in
-    start-as a.point.now a.slopes.now _ _ k.differences.ensures.0 c.opened.ensures
+    let a = c.args in
+    start-as a.point.now a.slopes.now _ _ c.differences-begun.ensures.outcome c.opened.ensures
