@@ -17,16 +17,23 @@ use Rattle.c_api.specs.Reply.{replyAs}
 use Rattle.c_api.proofs.Laws.{any-point}
 use Rattle.c_fit.specs.Handed.{handedOf}
 
+-- what the contract of a call over lent lists says, of the engine and of what C calls
+abbrev pub Left : Reply × Lists → List Float → List Float → List Float → List Float → Reply × Lists → Type 0
+Left o p' q' p q y = record { outcome : o ≡ y; said_point : p' ≡ pointAfter y p; said_slopes : q' ≡ slopesAfter y q }
+
+abbrev pub Handed : c.Reply → Lists → List Float → List Float → List Float → List Float → Reply × Lists → Type 0
+Handed r l p' q' p q y = record { outcome : (r, l) ≡ handedOf y; said_point : p' ≡ pointAfter y p; said_slopes : q' ≡ slopesAfter y q }
+
 -- what a call over lent lists leaves, by what the engine's call left
 pub handed : (s : Said) (n : ℕ) (p q : List Float) {r : c.Reply} {p' q' : List Float} {l : Lists} {y : Reply × Lists} → r ≡ replyAs (replyOf s 0 [] [])
-    → ((replyOf s n p' q', l) ≡ y) × ((p' ≡ pointAfter y p) × (q' ≡ slopesAfter y q)) → ((r, l) ≡ handedOf y) × ((p' ≡ pointAfter y p) × (q' ≡ slopesAfter y q))
-handed s n p q {p' = p'} {q' = q'} {l = l} e h = (ap (λ (k : c.Reply). (k, l)) (e ∙ any-point s n p' q') ∙ ap handedOf h.0, h.1)
+    → Left (replyOf s n p' q', l) p' q' p q y → Handed r l p' q' p q y
+handed s n p q {p' = p'} {q' = q'} {l = l} e h =
+    record { outcome = ap (λ (k : c.Reply). (k, l)) (e ∙ any-point s n p' q') ∙ ap handedOf h.outcome; said_point = h.said_point; said_slopes = h.said_slopes }
 
 -- and of a call whose options were C's
 pub handed-as : (s : Said) (n : ℕ) (p q : List Float) {r : c.Reply} {p' q' : List Float} {l : Lists} {y z : Reply × Lists} → y ≡ z → r ≡ replyAs (replyOf s 0 [] [])
-    → ((replyOf s n p' q', l) ≡ y) × ((p' ≡ pointAfter y p) × (q' ≡ slopesAfter y q)) → ((r, l) ≡ handedOf z) × ((p' ≡ pointAfter z p) × (q' ≡ slopesAfter z q))
-handed-as s n p q {r = r} {p' = p'} {q' = q'} {l = l} w e h =
-    subst (λ (y : Reply × Lists). ((r, l) ≡ handedOf y) × ((p' ≡ pointAfter y p) × (q' ≡ slopesAfter y q))) w (handed s n p q e h)
+    → Left (replyOf s n p' q', l) p' q' p q y → Handed r l p' q' p q z
+handed-as s n p q {r = r} {p' = p'} {q' = q'} {l = l} w e h = subst (Handed r l p' q' p q) w (handed s n p q e h)
 
 -- a fit's start with the same options
 pub fit-as : {O : Type 0} (start : List Float → O → Allowances → Reply × Record) (x : List Float) {o o' : O} {a a' : Allowances} → o ≡ o' → a ≡ a' → startedOf (start x o a) ≡ startedOf (start x o' a')

@@ -3,9 +3,5 @@ use borrow.Author.Rules.{rules}
 use Rattle.c_fit.proofs.Laws.{handed-as, search-as}
 use Rattle.c_fit.proofs.search.fit_record_search.Goals as goal
 
--- the options are read; each list is lent on
-abbrev read : tie.After-search → tie.After-to-wolfe
-read c = c.before.before.before.before.before.before.before.before.before.before.before.before.before.before.before.before.before.before.before.before.before.before.before.before.before.before
-
 pub returns : goal.returns
-returns c = handed-as _ _ _ _ (search-as _ _ _ _ _ _ (read c).to-wolfe.ensures) c.hand.ensures c.search-said.ensures
+returns c = handed-as _ _ _ _ (search-as _ _ _ _ _ _ c.to_wolfe-options.ensures) c.hand.ensures c.search-said.ensures
