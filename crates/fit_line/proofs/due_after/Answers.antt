@@ -9,20 +9,20 @@ use Rattle.fit_line.proofs.due_after.Goals as goal
 
 pub returns-in-Ask : goal.returns-in-Ask
 unfolding dueAfter outcomeOf replyOf
-returns-in-Ask c = let a = c.args.a in sym (ap (λ (w : Said). dueAfter (replyOf w a.next.n a.x a.g)) c.enum_told-1.given.1)
+returns-in-Ask c = let a = c.args.a in sym (ap (λ (w : Said). dueAfter (replyOf w a.next.n a.x a.g)) c.in-Ask.is)
 
 pub returns-in-Fitted : goal.returns-in-Fitted
 unfolding dueAfter outcomeOf replyOf
-returns-in-Fitted c = let a = c.args.a in sym (ap (λ (w : Said). dueAfter (replyOf w a.next.n a.x a.g)) c.enum_told-in-Fitted-1.given.1)
+returns-in-Fitted c = let a = c.args.a in sym (ap (λ (w : Said). dueAfter (replyOf w a.next.n a.x a.g)) c.in-Fitted.is)
 
 pub returns-in-Searched : goal.returns-in-Searched
 unfolding dueAfter outcomeOf replyOf
-returns-in-Searched c = let a = c.args.a in sym (ap (λ (w : Said). dueAfter (replyOf w a.next.n a.x a.g)) c.enum_told-in-Searched-1.given.1)
+returns-in-Searched c = let a = c.args.a in sym (ap (λ (w : Said). dueAfter (replyOf w a.next.n a.x a.g)) c.in-Searched.is)
 
 pub returns-in-Differenced : goal.returns-in-Differenced
 unfolding dueAfter outcomeOf replyOf
-returns-in-Differenced c = let a = c.args.a in sym (ap (λ (w : Said). dueAfter (replyOf w a.next.n a.x a.g)) c.enum_told-in-Differenced-1.given.1)
+returns-in-Differenced c = let a = c.args.a in sym (ap (λ (w : Said). dueAfter (replyOf w a.next.n a.x a.g)) c.in-Differenced.is)
 
 pub returns-in-Refused : goal.returns-in-Refused
 unfolding dueAfter outcomeOf replyOf
-returns-in-Refused c = let a = c.args.a in sym (ap (λ (w : Said). dueAfter (replyOf w a.next.n a.x a.g)) c.enum_told-in-Refused-1.given.1)
+returns-in-Refused c = let a = c.args.a in sym (ap (λ (w : Said). dueAfter (replyOf w a.next.n a.x a.g)) c.in-Refused.is)

@@ -10,8 +10,8 @@ use Rattle.fit_line.proofs.told.Goals as goal
 
 pub shown-count-requires : goal.shown-count-requires
 unfolding toldOf outcomeOf
-shown-count-requires c = subst (λ (o : Reply × Record). Few o.0 o.1.n) (sym c.answer-a.ensures.0) (answer-few _ _ _ _)
+shown-count-requires c = subst (λ (o : Reply × Record). Few o.0 o.1.n) (sym c.answer-a.ensures.outcome) (answer-few _ _ _ _)
 
 pub returns : goal.returns
 unfolding toldOf outcomeOf
-returns c = (rw (← c.answer-a.ensures.0, ← c.shown-count.ensures.0, ← c.following.ensures), rw (← c.answer-a.ensures.0) c.shown-count.ensures.1)
+returns c = (rw (← c.answer-a.ensures.outcome, ← c.shown-count.ensures.0, ← c.following.ensures), rw (← c.answer-a.ensures.outcome) c.shown-count.ensures.1)

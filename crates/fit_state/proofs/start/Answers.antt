@@ -6,12 +6,12 @@ use Rattle.fit_state.proofs.start.Goals as goal
 
 pub returns-then-s-eq-SIMPLEX : goal.returns-then-s-eq-SIMPLEX
 unfolding startOf
-returns-then-s-eq-SIMPLEX c = rw (← c.simplex.ensures.0, eq-eqb _ _ c.if-s-eq-SIMPLEX.true)
+returns-then-s-eq-SIMPLEX c = rw (← c.simplex.ensures.outcome, eq-eqb _ _ c.if-s-eq-SIMPLEX.true)
 
 pub returns-then-s-eq-BFGS : goal.returns-then-s-eq-BFGS
 unfolding startOf
-returns-then-s-eq-BFGS c = rw (← c.bfgs.ensures.0, ne_eqb _ _ c.if-s-eq-SIMPLEX.false, eq-eqb _ _ c.if-s-eq-BFGS.true)
+returns-then-s-eq-BFGS c = rw (← c.bfgs.ensures.outcome, ne_eqb _ _ c.if-s-eq-SIMPLEX.false, eq-eqb _ _ c.if-s-eq-BFGS.true)
 
 pub returns : goal.returns
 unfolding startOf
-returns c = rw (← c.lbfgs.ensures.0, ne_eqb _ _ c.if-s-eq-SIMPLEX.false, ne_eqb _ _ c.if-s-eq-BFGS.false)
+returns c = rw (← c.lbfgs.ensures.outcome, ne_eqb _ _ c.if-s-eq-SIMPLEX.false, ne_eqb _ _ c.if-s-eq-BFGS.false)
