@@ -1,4 +1,4 @@
--- Ranks go by values: `rank_lt` says that `<` on numbers is `<` on their ranks. Assumes nothing.
+-- Ranks go by values: `rank-lt` says that `<` on numbers is `<` on their ranks. Assumes nothing.
 use mathlib.Core.Path.{◌≡◌, refl, sym, ap, ap₂, ◌∙◌, subst, subst₂}
 use mathlib.Core.Logic.{inl, inr}
 use Prim.Native.Nat.{ℕ, zero, suc, ◌+◌, ◌-◌, ◌*◌, ◌/◌, ◌^◌, ◌≤◌, ◌<◌}

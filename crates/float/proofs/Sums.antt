@@ -103,7 +103,7 @@ under-plus (fin false n d) m e h = absurd (subst T (sym h) tt)
 pub minus-le : (f : Format) (a c m : ℕ) (e : ℤ) → T (le (round f true a c) (fin false m e))
 minus-le f a c m e = under-plus (round f true a c) m e (round-negative f true a c)
 
--- -|x| - |y| ≤ -|x|
+-- |x| - |y| ≤ |x|
 both-minus : (f : Format) (m : ℕ) (e : ℤ) (K B : ℕ) → 0 < K → T (fits f (fin true m e)) → T (le (round f true (m * up e * K + B) (down e * K)) (fin true m e))
 unfolding neg
 both-minus f m e K B P h =

@@ -175,7 +175,7 @@ fn guess(w: u64) -> u64
 // Newton's step for the root of w, from a guess g at it: half of g + w / g is never below the root.
 fn newton(w: u64, g: u64) -> u64
     requires w_bound { w < 2 ^ 60 }
-    requires bound { 2 ^ 28 ≤ g }
+    requires g_large { 2 ^ 28 ≤ g }
     requires g_bound { g < 2 ^ 32 }
     ensures { NotBelowRoot w result }
 {
@@ -185,7 +185,7 @@ fn newton(w: u64, g: u64) -> u64
 // The integer square root of w. Two steps bring the guess to it or to one more, which the loop takes
 // off. No proof leans on the guess being near: a far one would cost turns.
 fn word_root(w: u64) -> u64
-    requires bound { 2 ^ 58 ≤ w }
+    requires w_large { 2 ^ 58 ≤ w }
     requires w_bound { w < 2 ^ 60 }
     ensures { IntegerRoot w result }
 {
@@ -200,7 +200,7 @@ fn word_root(w: u64) -> u64
 // upper 30 digits, and what that leaves over, divided by twice itself, gives the other 24, or one more
 // where their square is above what is left then.
 fn integer_root(w: u64) -> u64
-    requires bound { 2 ^ 58 ≤ w }
+    requires w_large { 2 ^ 58 ≤ w }
     requires w_bound { w < 2 ^ 60 }
     ensures { IntegerRoot (w * 2 ^ 48) result }
 {

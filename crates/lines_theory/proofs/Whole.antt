@@ -184,7 +184,7 @@ fresh-is : (form : ℕ) → startedOf form ≡ record { field = fieldOf []; line
 unfolding addedAll allOk firsts
 fresh-is form = refl
 
--- any line, fed to the reader, is what `line_of` says
+-- any line, fed to the reader, is what `lineOf` says
 read-is : (form : ℕ) (bs : List ℕ) → finishedOf (fedAll (startedOf form) bs) ≡ lineOf form bs
 unfolding lineOf
 read-is form bs =

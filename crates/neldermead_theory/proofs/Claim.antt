@@ -1,4 +1,4 @@
--- The engine that runs simplex fits alone satisfies the mission's 3 (`claim`), and puts no more questions than 01 allows (`at_most`). Assumes nothing.
+-- The engine that runs simplex fits alone satisfies the mission's 3 (`claim`), and puts no more questions than 01 allows (`at-most`). Assumes nothing.
 use Rattle.protocol.specs.RoundsLaws.{RoundsLaws}
 use Rattle.protocol.specs.Fits.{fits}
 use Rattle.protocol.proofs.FitsLaws.{fits-laws}

@@ -1,4 +1,4 @@
--- The simplex in order (`in_order`): the same vertices, as many of them, and the first is not above any. Assumes nothing.
+-- The simplex in order (`in-order`): the same vertices, as many of them, and the first is not above any. Assumes nothing.
 use Prim.Native.Nat.{ℕ, zero, suc, ◌<◌}
 use native.Mathlib.Omega.{arith}
 use mathlib.Core.Path.{◌≡◌, refl, sym, ◌∙◌, ap, subst}

@@ -27,7 +27,7 @@ unfoldable pub slopeAt : Float → Float → Float → Float
 unfolding forwardOf backwardOf
 slopeAt x fp fm = (fp ⊖ fm) ⊘ (forwardOf x ⊖ backwardOf x)
 
--- `read` is how a value told is read: `read_of` in a fit and for trials, as it is in bare differences
+-- `read` is how a value told is read: `readOf` in a fit and for trials, as it is in bare differences
 module _ (read : Float → Float) where
   -- for i in 0..n: k coordinates are left, the next is i, and grad is the gradient so far
   unfoldable pub differencesFrom : List Float → ℕ → ℕ → List Float → Ask (List Float)

@@ -1,4 +1,4 @@
--- What is said of the record after an answer, by the refusal that the answer met; `answer_of` is said of it in proofs/Advance.antt.
+-- What is said of the record after an answer, by the refusal that the answer met; `answerOf` is said of it in proofs/Advance.antt.
 -- Definitions only.
 use Rattle.std.specs.Prelude.{ℕ, ◌≡◌, cond, not, eqb}
 use Rattle.protocol.specs.Protocol.{Reply}

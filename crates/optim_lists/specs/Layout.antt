@@ -1,5 +1,5 @@
 -- Where each part of a record lies in the arrays that a caller lends: the place of every mark and of every single number, by name. Every place is read by one field, and every field
--- from one place: none is spare (`record-back`, `lists_back`). Definitions only.
+-- from one place: none is spare (`record-back`, `lists-back`). Definitions only.
 --
 -- | array | in the code | type | holds | jobs |
 -- |---|---|---|---|---|

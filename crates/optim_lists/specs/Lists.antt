@@ -1,4 +1,4 @@
--- A record as the arrays that its caller holds and lends to each call: `recordOf` is the record that they are, `lists_of` the one form of a record, `formedOf` whether their flags are known
+-- A record as the arrays that its caller holds and lends to each call: `recordOf` is the record that they are, `listsOf` the one form of a record, `formedOf` whether their flags are known
 -- marks. The engine's definitions and theorems speak of records, and of lists through these. Definitions only.
 use Rattle.std.specs.Prelude.{ℕ, Bool, true, not, ◌&&◌, cond, List, [], ◌∷◌, map, eqb, leb, get_or, drop, Float}
 use Rattle.vector.specs.Loops.{at}

@@ -24,7 +24,7 @@ pub record ListsAnswers : Type 0 where
   -- a repeat brings again what stands
   pub repeat-keeps : (l : Lists) (number kind : ℕ) (words : List Float) → formedOf l ≡ true → validOf (recordOf l) ≡ true → repeatsOf (mark l.marks place.accepted) number ≡ true
       → ((answeredOf l number kind words).0 ≡ (standingOf (recordOf l)).0) × ((answeredOf l number kind words).1 ≡ l)
-  -- 1 before all else: a flag that is an unknown mark, then what `valid_of` finds
+  -- 1 before all else: a flag that is an unknown mark, then what `validOf` finds
   pub unknown-flag : (l : Lists) (number kind : ℕ) (words : List Float) → formedOf l ≡ false → answeredOf l number kind words ≡ (refused 1 0, l)
   pub out-of-range : (l : Lists) (number kind : ℕ) (words : List Float) → formedOf l ≡ true → validOf (recordOf l) ≡ false → answeredOf l number kind words ≡ (refused 1 0, l)
 

@@ -1,4 +1,4 @@
--- Whatever is told, rounds stay within max_iter and runs within the restarts (`told-within`), and texts within the bound on questions (`step_keeps`, `opening-keeps`). Assumes nothing.
+-- Whatever is told, rounds stay within max_iter and runs within the restarts (`told-within`), and texts within the bound on questions (`step-keeps`, `opening-keeps`). Assumes nothing.
 use Prim.Native.Nat.{ℕ, ◌+◌, ◌-◌, ◌≤◌, zero-le}
 use native.Mathlib.Omega.{arith}
 use mathlib.Core.Path.{◌≡◌, refl, sym, subst}

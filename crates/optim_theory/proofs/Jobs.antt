@@ -1,4 +1,4 @@
--- A list of answers to a text puts no more questions of a kind than the text costs: `at_most`. Assumes nothing.
+-- A list of answers to a text puts no more questions of a kind than the text costs: `at-most`. Assumes nothing.
 use Prim.Native.Nat.{ℕ, ◌+◌, ◌≤◌}
 use native.Mathlib.Omega.{arith}
 use mathlib.Core.Path.{◌≡◌, refl, sym, ap, subst}

@@ -1,4 +1,4 @@
--- The mission's 3 as it is spelled out for lists of calls, from `code-claim`: `spelled_out`. Assumes nothing.
+-- The mission's 3 as it is spelled out for lists of calls, from `code-claim`: `spelled-out`. Assumes nothing.
 use mathlib.Core.Path.{◌≡◌, refl, sym, ◌∙◌, ap, subst, subst₂}
 use mathlib.Core.Logic.{⊎_elim}
 use mathlib.Core.Bool.{Bool, true, false, cond}

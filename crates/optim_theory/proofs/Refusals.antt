@@ -1,4 +1,4 @@
--- The refusals that end a gradient fit are of those that a record can hold, whatever the record with an unknown and the answer: `told_named`, `told-gradient-named`, `settled-named`. Assumes nothing.
+-- The refusals that end a gradient fit are of those that a record can hold, whatever the record with an unknown and the answer: `told-named`, `told-gradient-named`, `settled-named`. Assumes nothing.
 use Prim.Native.Nat.{ℕ, ◌<◌}
 use mathlib.Core.Path.{◌≡◌, refl, subst}
 use mathlib.Core.Bool.{Bool, true, false, not, cond}

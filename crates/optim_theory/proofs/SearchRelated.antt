@@ -1,4 +1,4 @@
--- What ties a record of the job `search` to its text (`text_of`, `Sound`, `Within`): such a record is in range (`valid`), shows what the text shows (`stands`), and after an accepted answer
+-- What ties a record of the job `search` to its text (`textOf`, `Sound`, `Within`): such a record is in range (`valid`), shows what the text shows (`stands`), and after an accepted answer
 -- has the rest of the text to do (`moves`). Assumes nothing.
 use Prim.Native.Nat.{ℕ, ◌+◌, ◌*◌, ◌≤◌, ◌<◌}
 use native.Mathlib.Nat.{add-zero, le_trans, mul-le-mul_left, mul-le-mul_right}

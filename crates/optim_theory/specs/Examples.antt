@@ -118,7 +118,7 @@ wholeReplies = asks 1 Value one ∷ asks 2 Gradient one ∷ asks 3 Value zero �
 
 -- ---- what holds of them
 
--- computed on `simplexOf`, `bfgsOf`, `lbfgsOf` and `answer_of`
+-- computed on `simplexOf`, `bfgsOf`, `lbfgsOf` and `answerOf`
 pub record Computed : Type 0 where
   pub simplex-run : (k : ℕ) → (run code (sample k) sampleAnswers).replies ≡ sampleReplies
   pub non-finite-run : (run code (sample 0) nonFiniteAnswers).replies ≡ nonFiniteReplies

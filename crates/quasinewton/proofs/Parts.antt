@@ -1,4 +1,4 @@
--- `settled_of` in parts: the model after the search, and the record on with that model. Assumes nothing.
+-- `settledOf` in parts: the model after the search, and the record on with that model. Assumes nothing.
 use Prim.Native.Nat.{ℕ}
 use mathlib.Core.Path.{◌≡◌, refl, sym, ap}
 use mathlib.Core.Bool.{Bool, true, false, not, cond}

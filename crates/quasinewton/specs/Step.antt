@@ -1,5 +1,5 @@
 -- How a gradient fit goes on. A move takes what is told for the open question, and gives the record with the next question in it, or at rest: at the head of a round, or with
--- its search ended. From there `settled_of` goes on, with the model, to the next question or the end. The code goes on in two parts: `modelAfterOf` takes a pair into the model,
+-- its search ended. From there `settledOf` goes on, with the model, to the next question or the end. The code goes on in two parts: `modelAfterOf` takes a pair into the model,
 -- and `onwardOf` moves the record, with that model. What the crates below define is passed on. Definitions only.
 use Rattle.std.specs.Prelude.{ℕ, Bool, false, not, cond, eqb}
 use Rattle.vector.specs.Points.{differenceOf, allFiniteOf}

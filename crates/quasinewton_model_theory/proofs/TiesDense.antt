@@ -1,4 +1,4 @@
--- The dense model over 256 words is that over n rows of n, read off by `rows_of`. Assumes nothing.
+-- The dense model over 256 words is that over n rows of n, read off by `rowsOf`. Assumes nothing.
 use Prim.Native.Nat.{ℕ, zero, suc, ◌+◌, ◌*◌, ◌≤◌, ◌<◌}
 use mathlib.Core.Path.{◌≡◌, refl, sym, ap, ◌∙◌}
 use mathlib.Core.Logic.{inl, inr}

@@ -8,7 +8,7 @@ pub integer_root-requires : goal.integer_root-requires
 integer_root-requires c =
     let p = c.full_width-p in
     let w = width c.args.b p.result.m p.result.e p.ensures in
-    record { bound = w.0; w_bound = w.1 }
+    record { w_large = w.0; w_bound = w.1 }
 
 pub overflow_add-q : goal.overflow_add-q
 overflow_add-q c =

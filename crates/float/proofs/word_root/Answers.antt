@@ -15,11 +15,11 @@ guess-requires c = c.requires.w_bound
 pub newton-requires : goal.newton-requires
 newton-requires c =
     let p = product c.args.w c.requires.w_bound in
-    record { w_bound = c.requires.w_bound; bound = omega (arith, c.guess.ensures); g_bound = omega (arith, c.guess.ensures) }
+    record { w_bound = c.requires.w_bound; g_large = omega (arith, c.guess.ensures); g_bound = omega (arith, c.guess.ensures) }
 
 pub newton-r-requires : goal.newton-r-requires
 newton-r-requires c =
-    record { w_bound = c.requires.w_bound; bound = omega (arith, at-least c.args.w c.newton.result c.requires.bound c.newton.ensures); g_bound = c.newton.ensures.small }
+    record { w_bound = c.requires.w_bound; g_large = omega (arith, at-least c.args.w c.newton.result c.requires.w_large c.newton.ensures); g_bound = c.newton.ensures.small }
 
 pub loop-r-init : goal.loop-r-init
 loop-r-init c = c.newton-r.ensures
@@ -31,17 +31,17 @@ overflow_mul-r c =
 
 pub overflow_sub-r : goal.overflow_sub-r
 overflow_sub-r c =
-    let in-loop : 2 ^ 29 ≤ c.loop-r.r = at-least c.args.w c.loop-r.r c.requires.bound c.loop-r.invariant in
+    let in-loop : 2 ^ 29 ≤ c.loop-r.r = at-least c.args.w c.loop-r.r c.requires.w_large c.loop-r.invariant in
     omega (arith, in-loop)
 
 pub loop-r-smaller : goal.loop-r-smaller
 loop-r-smaller c =
-    let in-loop : 2 ^ 29 ≤ c.loop-r.r = at-least c.args.w c.loop-r.r c.requires.bound c.loop-r.invariant in
+    let in-loop : 2 ^ 29 ≤ c.loop-r.r = at-least c.args.w c.loop-r.r c.requires.w_large c.loop-r.invariant in
     omega (arith, in-loop)
 
 pub loop-r-preserved : goal.loop-r-preserved
 loop-r-preserved c =
-    let in-loop : 2 ^ 29 ≤ c.loop-r.r = at-least c.args.w c.loop-r.r c.requires.bound c.loop-r.invariant in
+    let in-loop : 2 ^ 29 ≤ c.loop-r.r = at-least c.args.w c.loop-r.r c.requires.w_large c.loop-r.invariant in
     lowered c.args.w c.loop-r.r (omega (arith, in-loop)) c.loop-r.invariant (omega (arith, c.loop-r-test.true))
 
 pub returns : goal.returns
