@@ -1,5 +1,7 @@
 // Fits of Rosenbrock's chain by the engine, for the benchmark: who links the archive times whole fits, and the
 // objective alone. The contracts bound the count of questions and say no more; all is proved safe and ending.
+#![tactic(auto)]
+
 ghost use Rattle.std.specs.Prelude.{◌≡◌, ◌≤◌, length};
 ghost use Rattle.bench_rosenbrock.specs.Most.{outsideOf, mostOf};
 

@@ -1,6 +1,8 @@
 // Parts of the engine for C to call: each function is `#[unsafe(no_mangle)] pub extern "C"`, has no `requires`, and calls the library's own.
 // include/fit.h declares them. A caller that is not Rattle is checked by nothing. The options and the reply of whole fits, which c_fit
 // exports, have their types here.
+#![tactic(auto)]
+
 mod lists;
 mod options;
 mod reply;

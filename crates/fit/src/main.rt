@@ -1,6 +1,8 @@
 // The fit program: it reads standard input part by part, and writes each reply before it waits for more. Where
 // a read or a write fails it says so on standard error, and ends: a line that a failed read left open is not
 // decided, and no reply is written behind one that was lost.
+#![tactic(auto)]
+
 ghost use Rattle.std.specs.Prelude.{◌≡◌, false, drop};
 ghost use Rattle.fit_dialogue.specs.Program.{passedOf, stepOf};
 

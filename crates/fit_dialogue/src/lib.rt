@@ -1,6 +1,8 @@
 // What the fit program makes of its input: one function that takes the program's state and a line that
 // was read, puts what is printed at the start of a lent buffer, and returns the next state; and steps over
 // the lines of a part of the input.
+#![tactic(auto)]
+
 ghost use Rattle.std.specs.Prelude.{◌≡◌, [], drop, length};
 ghost use Rattle.lines_buffer.specs.Texts.{filled};
 ghost use Rattle.fit_state.specs.States.{Turned};

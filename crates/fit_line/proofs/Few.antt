@@ -13,8 +13,6 @@ use Rattle.protocol.specs.declared.Allowances.{Allowances}
 use Rattle.protocol.specs.declared.GradientOptions.{GradientOptions}
 use Rattle.protocol.specs.declared.SimplexOptions.{SimplexOptions}
 use Rattle.protocol.specs.Protocol.{Reply, ask, ended, refused}
-use Rattle.linesearch.specs.Step as linesearch
-use Rattle.quasinewton.specs.Step as quasinewton
 use Rattle.optim_record.specs.declared.Record.{Record}
 use Rattle.optim_record.specs.Record.{simplexMark, bfgsMark, searchMark, gradientJobOf, validOf}
 use Rattle.optim_reply.specs.Standing.{standingOf, overOf, gradientDueOf}

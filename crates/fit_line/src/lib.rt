@@ -1,5 +1,7 @@
 // What each line of the fit program brings where it is due: what is printed, put at the start of a lent
 // buffer, and the next state.
+#![tactic(auto)]
+
 ghost use Rattle.std.specs.Prelude.{◌≡◌, length};
 ghost use Rattle.lines_buffer.specs.Texts.{filled};
 ghost use Rattle.optim_record.specs.Record.{outcomeOf};

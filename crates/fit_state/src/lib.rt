@@ -1,5 +1,7 @@
 // The state of the fit program between two lines, and what several lines share: a bad line, the start of
 // the job, and the scan of the input for a line's end.
+#![tactic(auto)]
+
 ghost use Rattle.std.specs.Prelude.{◌≡◌, drop};
 ghost use Rattle.optim_record.specs.Record.{outcomeOf};
 ghost use Rattle.fit_state.specs.States.{Turned, begunOf, followingOf, keptOf, badOf, formAfter, startOf, scannedOf};

@@ -1,5 +1,7 @@
 // What Rust's f64 has as methods, worked out from the bits of a value: sign, exponent and fraction
 // taken apart by shifts and masks. A NaN's bits are free and are never read, so it goes first.
+#![tactic(auto)]
+
 ghost use Rattle.std.specs.Prelude.{◌≡◌, ◌*◌, ◌^◌, ◌≤◌, ◌<◌};
 ghost use Rattle.std.specs.Float.Ieee.{lt};
 ghost use Rattle.float.specs.Values.{absOf, finiteOf, signumOf, maxOf, minOf, toleranceOf, positiveOf};

@@ -1,5 +1,7 @@
 // Bytes, texts, numbers and values put into a lent buffer at a place. Each function that puts something
 // returns the place after it; the other bytes stay as they were.
+#![tactic(auto)]
+
 ghost use Rattle.std.specs.Prelude.{◌≡◌, [], ◌∷◌, ◌+◌, ◌≤◌, ◌<◌, length};
 ghost use Rattle.std.specs.Float.Ieee.{to_bits};
 ghost use Rattle.std.specs.Float.{binary64};

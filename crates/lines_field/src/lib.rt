@@ -1,4 +1,6 @@
 // One field of a line, byte by byte, and what it is when it ends.
+#![tactic(auto)]
+
 ghost use Rattle.std.specs.Prelude.{◌≡◌, ◌<◌};
 ghost use Rattle.lines_field.specs.Shapes.{digitOf, malformed, formed};
 ghost use Rattle.lines_field.specs.Fields.{lostOf, growOf, blankFieldOf, lengthenedOf, addedOf, spellsOf, wordOf, decimalOf, maybeOf, flagOf, letterOf, jobOf, judgedOf};

@@ -1,4 +1,6 @@
 // What line 1, line 3 and an answer say, once the reader has read them.
+#![tactic(auto)]
+
 ghost use Rattle.std.specs.Prelude.{◌≡◌, ◌≤◌};
 ghost use Rattle.float.specs.Binary64.{bits};
 ghost use Rattle.lines_forms.specs.Lines.{wordsOf, wholeOf, firstLineOf, pointHoldsOf, pointLineOf, wordCountOf, answerHoldsOf, answerLineOf};

@@ -1,5 +1,7 @@
 // The lines that the fit program reads: its reader, and what each line says in the engine's types. What
 // line 2 says stands here, and all else in the crates below.
+#![tactic(auto)]
+
 ghost use Rattle.std.specs.Prelude.{◌≡◌};
 ghost use Rattle.lines_options.specs.Options.{allowanceIn, simplexLineOf, gradientLineOf};
 

@@ -1,5 +1,7 @@
 // What the fit program prints: questions, results, refusals and bad lines, put at the start of a lent
 // buffer. Each public function returns how many bytes it put; the rest of the buffer stays as it was.
+#![tactic(auto)]
+
 mod reasons;
 
 ghost use Rattle.std.specs.Prelude.{◌≡◌, ◌≤◌, length};

@@ -1,6 +1,8 @@
 // The reader of the fit program's lines. It is fed one byte at a time and keeps no text, so that a
 // line may have any length; what a field must be is decided when it ends, by the line's form and the
 // field's place.
+#![tactic(auto)]
+
 ghost use Rattle.std.specs.Prelude.{◌≡◌, ◌&&◌};
 ghost use Rattle.lines_reader.specs.Forms.{shapeAtOf};
 ghost use Rattle.lines_reader.specs.Reader.{oneMoreOf, keptOf, aloneOf, freshLineOf, takenOf, startedOf, fedOf, finishedOf, begunOf};

@@ -1,5 +1,7 @@
 // The strong Wolfe search of linesearch.rs, one answer at a time. Each move takes what is told for the open
 // question, and gives the record with the next question or the outcome in it.
+#![tactic(auto)]
+
 ghost use Rattle.std.specs.Prelude.{◌≡◌, ◌≤◌};
 ghost use Rattle.linesearch.specs.Step.{gradedOf, differingOf, evalGradientOf, valuedOf, begunOf, probeOf, toldOf, toldGradientOf};
 

@@ -1,5 +1,7 @@
 // The record of a strong Wolfe search, its moves to the next trial or the end, and its decisions when the
 // trial in hand is made.
+#![tactic(auto)]
+
 mod bracketing;
 
 ghost use Rattle.std.specs.Prelude.{◌≡◌, ◌<◌};

@@ -6,7 +6,6 @@ use Rattle.std.specs.Float.{nan}
 use Rattle.std.specs.Float.Ieee.{le}
 use Rattle.float.specs.Binary64.{◌⊖◌, ◌⊗◌, plusZero}
 use Rattle.float.specs.Values.{finiteOf, minOf}
-use Rattle.vector.specs.Loops.{at}
 use Rattle.vector.specs.Points.{fromSliceOf}
 use Rattle.vector.specs.Lists.{first, dot}
 use Rattle.vector.specs.Ties.{ZeroFrom}

@@ -1,1 +1,3 @@
+#![tactic(auto)]
+
 // No code: the definitions of the search as Nocedal and Wright have it, and what is proved of them.

@@ -1,5 +1,7 @@
 // The trials of a line search, functions of no record: the tests on them and the step between two of them,
 // which see a step, a value and a slope and no coordinates; what they are made of, and what refuses a start.
+#![tactic(auto)]
+
 mod evaluations;
 mod refusals;
 

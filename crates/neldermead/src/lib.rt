@@ -1,5 +1,7 @@
 // Nelder and Mead's simplex, one answer at a time. Each move takes the value told for the open
 // question, and gives the record with the next question or the end in it.
+#![tactic(auto)]
+
 ghost use Rattle.std.specs.Prelude.{◌≡◌, ◌≤◌, ◌<◌};
 ghost use Rattle.neldermead.specs.Step.{building, reasonOf, headedOf, toldOf, startOf};
 ghost use Rattle.neldermead.specs.Parts.{amongOf, takenOf, reflectionOf, outcomeOf, placeOf, nextAtOf, farOf, coefficientOf, nextPointOf, nextPhaseOf, verdictOf};

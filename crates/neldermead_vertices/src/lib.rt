@@ -1,4 +1,6 @@
 // The vertices of a simplex: order, mean, size, and what the tests and coefficients want of them.
+#![tactic(auto)]
+
 ghost use Rattle.std.specs.Prelude.{◌≡◌, ◌≤◌, ◌<◌};
 ghost use Rattle.neldermead_vertices.specs.Method.{adapts, beta, gamma, delta, displaced, resolution, better};
 ghost use Rattle.neldermead_vertices.specs.Vertices.{sortedOf, centroidOf, cornerOf, sizeOf, anyFiniteOf, flatOf, convergedOf};

@@ -1,4 +1,6 @@
 // The reading of values, and central differences one answer at a time.
+#![tactic(auto)]
+
 ghost use Rattle.std.specs.Prelude.{◌≡◌, ◌<◌};
 ghost use Rattle.protocol.specs.Protocol.{readOf};
 ghost use Rattle.objective.specs.Algorithm.{differenceStep, forwardOf, backwardOf};

@@ -1,5 +1,7 @@
 // The engine: one start for each job, and one call for each answer. The record goes in by value and
 // comes back beside the reply.
+#![tactic(auto)]
+
 ghost use Rattle.std.specs.Prelude.{◌≡◌};
 ghost use Rattle.optim_record.specs.Record.{outcomeOf};
 ghost use Rattle.optim_reply.specs.Spoken.{replyWith, spokenBy, spokenIn};

@@ -1,4 +1,6 @@
 // The records of starts, and the refusals that starts meet before their points are looked at.
+#![tactic(auto)]
+
 mod gradients;
 
 ghost use Rattle.std.specs.Prelude.{◌≡◌, ◌≤◌, length};

@@ -1,6 +1,8 @@
 // The engine over a record that is lent as lists: one start for each job, and one call for each answer. The lists are loaded, the
 // engine's call is made, and what it leaves is stored. `point` gets the point of which the reply speaks, `slopes` the gradient that a
 // bare search or bare differences end with; a refusal leaves both as they were.
+#![tactic(auto)]
+
 ghost use Rattle.std.specs.Prelude.{◌≡◌, drop};
 ghost use Rattle.protocol.specs.Protocol.{replyOf};
 ghost use Rattle.optim_lists.specs.Layout as place;

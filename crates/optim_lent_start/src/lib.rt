@@ -1,5 +1,7 @@
 // The starts over a record that is lent as lists, one for each job. The lists may hold anything: the engine's start is made, and its
 // record is stored. A refused start leaves the blank record.
+#![tactic(auto)]
+
 mod reply;
 
 ghost use Rattle.std.specs.Prelude.{◌≡◌};

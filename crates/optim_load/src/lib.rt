@@ -1,4 +1,6 @@
 // The record that lent lists are, loaded part by part.
+#![tactic(auto)]
+
 mod parts;
 
 ghost use Rattle.std.specs.Prelude.{◌≡◌};

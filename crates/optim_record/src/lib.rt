@@ -1,4 +1,6 @@
 // The record that passes through every call of the engine, and refusal 1.
+#![tactic(auto)]
+
 mod blanks;
 
 ghost use Rattle.std.specs.Prelude.{◌≡◌};

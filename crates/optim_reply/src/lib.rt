@@ -1,4 +1,6 @@
 // What stands in a record: its open question, or its outcome. All of it is a function of the record.
+#![tactic(auto)]
+
 ghost use Rattle.std.specs.Prelude.{◌≡◌, ◌≤◌};
 ghost use Rattle.optim_record.specs.Record.{outcomeOf, fixedOf, searchFixedOf, gradientFixedOf, Stands};
 ghost use Rattle.optim_reply.specs.Standing.{overOf, gradientDueOf, terminationOf, descentTerminationOf, descentConvergedOf};

@@ -1,4 +1,6 @@
 // What an answer meets, and what an accepted one moves: the refusals and the repeat rule, the counts, and each job's part.
+#![tactic(auto)]
+
 ghost use Rattle.std.specs.Prelude.{◌≡◌, ◌≤◌, ◌<◌, length};
 ghost use Rattle.optim_record.specs.Record.{simplexMark, Ranges};
 ghost use Rattle.optim_rules.specs.Rules.{repeatsOf, suitsOf, meetsOf, acceptsOf};

@@ -1,4 +1,6 @@
 // The engine's starts: one for each job. Each looks for its refusals in 01's order, and gives the first record.
+#![tactic(auto)]
+
 ghost use Rattle.std.specs.Prelude.{◌≡◌, ◌≤◌};
 ghost use Rattle.optim_record.specs.Record.{outcomeOf, blankOf, searchFixedOf, Stands};
 ghost use Rattle.optim_reply.specs.Standing.{refusedOf};

@@ -1,4 +1,6 @@
 // The one form of a record, stored in lists that are lent.
+#![tactic(auto)]
+
 ghost use Rattle.std.specs.Prelude.{◌≡◌};
 ghost use Rattle.optim_lists.specs.Lists.{lists, flagOf, marksOf, numbersOf, pointsOf, valuesOf, stepsOf, changesOf, factorsOf, listsOf};
 

@@ -12,7 +12,7 @@ use lib.Ieee.{Float, lt}
 use Rattle.float.specs.Binary64.{plusZero}
 use Rattle.float.specs.Values.{toleranceOf}
 use Rattle.vector.specs.Loops.{at}
-use Rattle.vector.specs.Lists.{first, allFinite}
+use Rattle.vector.specs.Lists.{allFinite}
 use Rattle.vector.specs.Points.{fromSliceOf, allFiniteOf}
 use Rattle.vector.proofs.First.{point-laws}
 use Rattle.protocol.specs.declared.Allowance.{Allowance}

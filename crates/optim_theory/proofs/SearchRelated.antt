@@ -30,7 +30,7 @@ use Rattle.linesearch_theory.specs.Follows.{kindOf, LineHas, SearchShaped, Searc
 use Rattle.linesearch_theory.proofs.Follows.{search-follows}
 use Rattle.quasinewton.specs.Step.{searching, withSearch}
 use Rattle.optim_record.specs.declared.Record.{Record}
-use Rattle.optim_record.specs.Record.{simplexMark, searchMark, most, mostEvals, searchFixedOf, validOf}
+use Rattle.optim_record.specs.Record.{simplexMark, searchMark, mostEvals, searchFixedOf, validOf}
 use Rattle.optim_record.proofs.Refusal1.{search-valid}
 use Rattle.optim_reply.specs.Standing.{overOf, gradientDueOf, searchResultOf, standingSearchOf, standingOf}
 use Rattle.optim.specs.Answer.{valuedOf, slopedOf, steppedOf, gradedOf}

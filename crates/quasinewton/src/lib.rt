@@ -1,6 +1,8 @@
 // The gradient fits bfgs and lbfgs of quasinewton.rs, one answer at a time. An answer gives the record with
 // the next question in it, or at rest: at the head of a round, or with its search ended. From there
 // `settled` goes on, with the model, to the next question or the end.
+#![tactic(auto)]
+
 ghost use Rattle.std.specs.Prelude.{◌≡◌, ◌≤◌};
 ghost use Rattle.quasinewton_model.specs.Step.{ModelInRange, FewPairs};
 ghost use Rattle.quasinewton.specs.Step.{storesPairOf, updatedOf, arrivedOf, onwardOf};

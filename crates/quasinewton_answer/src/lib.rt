@@ -1,5 +1,7 @@
 // The open question of a gradient fit and its answer. A move takes what is told for the question, and gives
 // the record with the next question in it, or at rest: at the head of a round, or with its search ended.
+#![tactic(auto)]
+
 ghost use Rattle.std.specs.Prelude.{◌≡◌, ◌≤◌};
 ghost use Rattle.quasinewton_answer.specs.Questions.{probeOf, toldOf, toldGradientOf};
 

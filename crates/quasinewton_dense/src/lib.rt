@@ -1,4 +1,6 @@
 // The dense model of the inverse Hessian (Nocedal and Wright 2006, eq. 6.17).
+#![tactic(auto)]
+
 ghost use Rattle.std.specs.Prelude.{◌≡◌, ◌≤◌, ◌<◌};
 ghost use Rattle.quasinewton_dense.specs.Step.{diagonalOf, updateRowOf, updateRowsOf, preparedOf, denseUpdateOf, denseDirectionOf};
 

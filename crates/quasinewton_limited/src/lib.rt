@@ -1,4 +1,6 @@
 // The model of limited memory of the inverse Hessian (Nocedal and Wright 2006, Algorithm 7.4).
+#![tactic(auto)]
+
 ghost use Rattle.std.specs.Prelude.{◌≡◌, ◌≤◌, ◌<◌};
 ghost use Rattle.quasinewton_limited.specs.Step.{downOf, allDownOf, upOf, allUpOf, limitedDirectionOf, shiftedOf, poppedOf, roomOf, gammaOf, limitedUpdateOf, noPairsOf};
 

@@ -1,4 +1,6 @@
 // The inverse Hessian models of quasinewton.rs as one: dense, or of limited memory.
+#![tactic(auto)]
+
 ghost use Rattle.std.specs.Prelude.{◌≡◌, ◌≤◌};
 ghost use Rattle.quasinewton_model.specs.Step.{ModelInRange, FewPairs, blankOf, newModelOf, directionOf, updateOf};
 

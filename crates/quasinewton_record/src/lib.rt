@@ -1,4 +1,6 @@
 // The record of a gradient fit, before it moves: what it holds, the first one, and what it waits for.
+#![tactic(auto)]
+
 mod formulas;
 mod outcomes;
 

@@ -1,5 +1,7 @@
 // The rounds of a gradient fit: the opening up to the first head, and from a head its direction, up to the
 // start of its search.
+#![tactic(auto)]
+
 mod opening;
 
 ghost use Rattle.std.specs.Prelude.{◌≡◌, ◌≤◌};

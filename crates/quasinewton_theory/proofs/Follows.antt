@@ -9,7 +9,6 @@ use lib.Dec.{ltb, eqb}
 use lib.ListN.{get_or, length-replicate, get_or-replicate}
 use lib.Ieee.{Float, nan}
 use Rattle.float.specs.Binary64.{plusZero}
-use Rattle.vector.specs.Loops.{at}
 use Rattle.vector.specs.Points.{fromSliceOf, negationOf, allFiniteOf, differenceOf}
 use Rattle.vector.proofs.First.{point-laws}
 use Rattle.vector.specs.Ties.{ZeroFrom}

@@ -34,7 +34,7 @@ use Rattle.quasinewton_record.specs.declared.Fixed.{Fixed}
 use Rattle.quasinewton_record.specs.declared.Descent.{Descent}
 use Rattle.quasinewton.specs.Step as step
 use Rattle.quasinewton.specs.Step.{byGradient, byIterations, byFevals, inPhase, refusedBy, searchFixed, initialStepOf, notDescendingOf, soughtOf, searchedOf, steepestOf, directedOf, headedOf}
-use Rattle.quasinewton_theory.specs.Algorithm.{GradientPosition, concluded, initialStep, searched, notDescending, directed, iterated, round}
+use Rattle.quasinewton_theory.specs.Algorithm.{GradientPosition, concluded, initialStep, searched, notDescending, directed, round}
 use Rattle.quasinewton_theory.specs.Follows.{positionOf, toDo, allowed, headed, settled, AllowsFevals, GradientAllows}
 
 -- ---- the tests of `strong_wolfe`

@@ -19,6 +19,8 @@
 //
 // After a refused start answers are still read: the record of one is refused with 1. Fields and words
 // are those of the fit program.
+#![tactic(auto)]
+
 mod given;
 mod head;
 mod print;

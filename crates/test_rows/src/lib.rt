@@ -1,5 +1,7 @@
 // What the programs that replay a table of the Rust's results share: digits, the bits of values, and
 // the count of rows.
+#![tactic(auto)]
+
 ghost use Rattle.std.specs.Prelude.{◌≡◌, ◌≤◌, length};
 ghost use Rattle.std.specs.Float.{binary64};
 ghost use Rattle.std.specs.Float.Ieee.{of_bits, to_bits};

@@ -1,4 +1,6 @@
 // Points of the first n of sixteen coordinates, those past n zero. One loop to a function.
+#![tactic(auto)]
+
 ghost use Rattle.std.specs.Prelude.{◌≡◌, ◌≤◌, ◌<◌, length};
 ghost use Rattle.vector.specs.Points.{fromSliceOf, dotOf, infNormOf, allFiniteOf, plusScaledOf, minusScaledOf, differenceOf, additionOf, quotientOf, scaledOf, negationOf, towardsOf, shrunkOf, rowDotOf, matVecOf};
 

@@ -1,5 +1,4 @@
 -- `bench_rosenbrock::begin` meets its contract: each turn passes a coordinate, and a store keeps the length. Assumes nothing.
-use borrow.Author.Rules.{rules}
 use mathlib.Core.Path.{◌≡◌}
 use Prim.Native.Nat.{◌-◌}
 use lib.ListN.{length}

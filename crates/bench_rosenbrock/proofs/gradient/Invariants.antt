@@ -1,5 +1,4 @@
 -- `bench_rosenbrock::gradient` is safe and ends: each turn passes a coordinate. Assumes nothing.
-use borrow.Author.Rules.{rules}
 use mathlib.Core.Path.{◌≡◌}
 use Prim.Native.Nat.{◌-◌, ◌≤◌}
 use lib.ListN.{length}

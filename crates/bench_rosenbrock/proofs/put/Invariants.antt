@@ -1,5 +1,4 @@
 -- `bench_rosenbrock::put` is safe and ends: each turn passes a coordinate, and a store keeps the length. Assumes nothing.
-use borrow.Author.Rules.{rules}
 use mathlib.Core.Path.{◌≡◌}
 use Prim.Native.Nat.{◌-◌, ◌≤◌}
 use lib.ListN.{length}

@@ -1,9 +1,7 @@
 -- `bench_rosenbrock::rosenbrock_fit` meets its contract: the turns are what is counted, and each has one fewer to come. Assumes nothing.
-use borrow.Author.Rules.{rules}
 use mathlib.Core.Path.{◌≡◌, refl, sym, ◌∙◌}
 use mathlib.Core.Bool.{false}
-use Prim.Native.Nat.{ℕ, ◌-◌, ◌≤◌, zero-le}
-use lib.ListN.{length}
+use Prim.Native.Nat.{ℕ, ◌≤◌, zero-le}
 use Rattle.bench_rosenbrock.specs.Most.{outsideOf, mostOf}
 use Rattle.bench_rosenbrock.proofs.Inside.{inside}
 use Rattle.bench_rosenbrock.proofs.rosenbrock_fit.Goals as goal

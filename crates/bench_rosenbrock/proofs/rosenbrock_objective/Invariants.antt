@@ -1,9 +1,7 @@
 -- `bench_rosenbrock::rosenbrock_objective` is safe and ends: each turn has one fewer to come. Assumes nothing.
-use borrow.Author.Rules.{rules}
-use mathlib.Core.Path.{◌≡◌, sym, ◌∙◌}
+use mathlib.Core.Path.{◌≡◌}
 use Prim.Native.Nat.{◌-◌, ◌≤◌}
 use lib.ListN.{length}
-use Rattle.bench_rosenbrock.proofs.Inside.{inside}
 use Rattle.bench_rosenbrock.proofs.rosenbrock_objective.Given as goal
 
 abbrev pub invariant-loop-i : goal.invariant-loop-i

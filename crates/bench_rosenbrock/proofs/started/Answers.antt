@@ -1,5 +1,4 @@
 -- `bench_rosenbrock::started` is safe: the chain has n of sixteen coordinates. Assumes nothing.
-use borrow.Author.Rules.{rules}
 use mathlib.Core.Path.{sym}
 use native.Mathlib.Omega.{arith}
 use lib.Seq.{length-take-le}

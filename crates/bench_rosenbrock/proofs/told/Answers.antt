@@ -1,5 +1,4 @@
 -- `bench_rosenbrock::told` is safe: an answer has at most sixteen words. Assumes nothing.
-use borrow.Author.Rules.{rules}
 use mathlib.Core.Path.{sym}
 use native.Mathlib.Omega.{arith}
 use lib.Seq.{length-take-le}

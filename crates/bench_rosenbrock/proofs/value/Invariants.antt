@@ -1,5 +1,4 @@
 -- `bench_rosenbrock::value` is safe and ends: each turn passes a coordinate. Assumes nothing.
-use borrow.Author.Rules.{rules}
 use Prim.Native.Nat.{◌-◌, ◌≤◌}
 use Rattle.bench_rosenbrock.proofs.value.Given as goal
 

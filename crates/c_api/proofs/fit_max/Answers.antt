@@ -1,5 +1,4 @@
 -- `c_api::fit_max` meets its contract: each return follows the calls and tests that led to it. Assumes nothing.
-use borrow.Author.Rules.{rules}
 use Rattle.c_api.proofs.fit_max.Goals as goal
 
 pub returns : goal.returns

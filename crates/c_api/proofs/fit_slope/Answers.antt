@@ -1,5 +1,4 @@
 -- `c_api::fit_slope` meets its contract: each return follows the calls and tests that led to it. Assumes nothing.
-use borrow.Author.Rules.{rules}
 use lib.Ieee.{of_bits}
 use Rattle.objective.specs.Step.{toldOf}
 use Rattle.c_api.proofs.fit_slope.Goals as goal

@@ -1,9 +1,7 @@
 -- `fit::fed_part` meets its contract: what is to be passed from here on comes to where the part comes to. Assumes nothing.
-use Prim.Native.Nat.{◌-◌}
-use mathlib.Core.Path.{◌≡◌, refl, ap, ◌∙◌}
+use mathlib.Core.Path.{refl, ap, ◌∙◌}
 use native.Mathlib.Omega.{arith}
-use lib.ListN.{length, drop}
-use borrow.Author.Rules.{rules}
+use lib.ListN.{drop}
 use Rattle.fit_dialogue.specs.declared.Step.{Step}
 use Rattle.fit_dialogue.specs.Program.{passedOf}
 use Rattle.fit_dialogue.proofs.Steps.{step-further, step-rest, part-done}

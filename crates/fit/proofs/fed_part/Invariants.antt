@@ -1,12 +1,8 @@
 -- `fit::fed_part` meets its contract: what is to be passed from here on comes to where the part comes to. Assumes nothing.
 use Prim.Native.Nat.{◌-◌}
-use mathlib.Core.Path.{◌≡◌, refl, ap, ◌∙◌}
-use native.Mathlib.Omega.{arith}
+use mathlib.Core.Path.{◌≡◌}
 use lib.ListN.{length, drop}
-use borrow.Author.Rules.{rules}
-use Rattle.fit_dialogue.specs.declared.Step.{Step}
 use Rattle.fit_dialogue.specs.Program.{passedOf}
-use Rattle.fit_dialogue.proofs.Steps.{step-further, step-rest, part-done}
 use Rattle.fit.proofs.fed_part.Given as goal
 
 abbrev pub invariant-loop-at : goal.invariant-loop-at

@@ -1,5 +1,4 @@
 -- `fit::line_fed` meets its contract: the step is the dialogue's, and once a reply is lost none is written. Assumes nothing.
-use borrow.Author.Rules.{rules}
 use mathlib.Core.Path.{sym, ◌∙◌}
 use mathlib.Core.Bool.{true≢false}
 use Rattle.fit.proofs.line_fed.Goals as goal

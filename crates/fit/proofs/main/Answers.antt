@@ -1,8 +1,6 @@
 -- `fit::main` is safe and ends: each turn has one fewer to come. Assumes nothing.
 use borrow.Author.Rules.{rules}
-use mathlib.Core.Path.{◌≡◌}
 use native.Mathlib.Omega.{arith}
-use lib.ListN.{length}
 use Rattle.fit.proofs.main.Goals as goal
 
 pub loop-turns-smaller : goal.loop-turns-smaller

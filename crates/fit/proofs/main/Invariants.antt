@@ -1,7 +1,5 @@
 -- `fit::main` is safe and ends: each turn has one fewer to come. Assumes nothing.
-use borrow.Author.Rules.{rules}
 use mathlib.Core.Path.{◌≡◌}
-use native.Mathlib.Omega.{arith}
 use lib.ListN.{length}
 use Rattle.fit.proofs.main.Given as goal
 

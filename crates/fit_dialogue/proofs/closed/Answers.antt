@@ -1,6 +1,5 @@
 -- `fit_dialogue::closed` meets its contract: each return follows the calls and tests that led to it. Assumes nothing.
 use mathlib.Core.Path.{refl}
-use borrow.Author.Rules.{rules}
 use Rattle.fit_dialogue.specs.Program.{byBytes}
 use Rattle.fit_dialogue.proofs.closed.Goals as goal
 

@@ -1,5 +1,4 @@
 -- `fit_dialogue::decided` meets its contract: each return follows the calls and tests that led to it. Assumes nothing.
-use borrow.Author.Rules.{rules}
 use mathlib.Core.Path.{refl}
 use borrow.Author.Tests.{eq-eqb, ne_eqb}
 use Rattle.fit_dialogue.specs.Talk.{decidedOf}

@@ -1,5 +1,4 @@
 -- `fit_dialogue::opened` meets its contract: each return follows the calls and tests that led to it. Assumes nothing.
-use borrow.Author.Rules.{rules}
 use Rattle.fit_dialogue.specs.Program.{firstPlace}
 use Rattle.fit_dialogue.proofs.opened.Goals as goal
 

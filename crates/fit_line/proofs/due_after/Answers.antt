@@ -1,5 +1,4 @@
 -- `fit_line::due_after` meets its contract: each of the things that the engine says is one variant's. Assumes nothing.
-use borrow.Author.Rules.{rules}
 use mathlib.Core.Path.{sym, ap}
 use Rattle.protocol.specs.declared.Said.{Said}
 use Rattle.protocol.specs.Protocol.{replyOf}

@@ -1,5 +1,4 @@
 -- `fit_line::second_gradient` meets its contract: each return follows the calls and tests that led to it. Assumes nothing.
-use borrow.Author.Rules.{rules}
 use mathlib.Core.Path.{refl}
 use Rattle.fit_line.specs.Turns.{secondGradientOf}
 use Rattle.fit_line.proofs.second_gradient.Goals as goal

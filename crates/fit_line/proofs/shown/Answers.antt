@@ -1,5 +1,4 @@
 -- `fit_line::shown` meets its contract: each of the things that the engine says is put as its line. Assumes nothing.
-use borrow.Author.Rules.{rules}
 use mathlib.Core.Path.{refl}
 use Rattle.optim_record.specs.Record.{outcomeOf}
 use Rattle.fit_line.proofs.Shows.{put-is, ask-shown, end-shown, no-shown, search-shown, gradient-shown}

@@ -1,5 +1,4 @@
 -- `fit_line::third` meets its contract: each return follows the calls and tests that led to it. Assumes nothing.
-use borrow.Author.Rules.{rules}
 use mathlib.Core.Path.{sym}
 use lib.Seq.{length-take-le}
 use Rattle.fit_line.proofs.Lends.{point-lent}

@@ -1,5 +1,4 @@
 -- `fit_line::told` meets its contract: the engine's reply is shown, and its record kept. Assumes nothing.
-use borrow.Author.Rules.{rules}
 use mathlib.Core.Path.{sym, subst}
 use Rattle.protocol.specs.Protocol.{Reply}
 use Rattle.optim_record.specs.declared.Record.{Record}

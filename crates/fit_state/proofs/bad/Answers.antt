@@ -1,5 +1,4 @@
 -- `fit_state::bad` meets its contract: each return follows the calls and tests that led to it. Assumes nothing.
-use borrow.Author.Rules.{rules}
 use Rattle.fit_state.specs.States.{badOf}
 use Rattle.fit_state.proofs.bad.Goals as goal
 

@@ -1,5 +1,4 @@
 -- `fit_state::begun` meets its contract: each return follows the calls and tests that led to it. Assumes nothing.
-use borrow.Author.Rules.{rules}
 use Rattle.fit_state.specs.States.{begunOf}
 use Rattle.fit_state.proofs.begun.Goals as goal
 

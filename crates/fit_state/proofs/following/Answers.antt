@@ -1,5 +1,4 @@
 -- `fit_state::following` meets its contract: each return follows the calls and tests that led to it. Assumes nothing.
-use borrow.Author.Rules.{rules}
 use borrow.Author.Tests.{le-ltb, lt-ltb}
 use Rattle.fit_state.specs.States.{followingOf}
 use Rattle.fit_state.proofs.following.Goals as goal

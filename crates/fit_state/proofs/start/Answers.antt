@@ -1,5 +1,4 @@
 -- `fit_state::start` meets its contract: each return follows the calls and tests that led to it. Assumes nothing.
-use borrow.Author.Rules.{rules}
 use borrow.Author.Tests.{eq-eqb, ne_eqb}
 use Rattle.fit_state.specs.States.{startOf}
 use Rattle.fit_state.proofs.start.Goals as goal

@@ -1,5 +1,4 @@
 -- `float::full_width` meets its contract. Assumes nothing.
-use borrow.Author.Rules.{rules}
 use native.Mathlib.Omega.{arith}
 use lib.Bits.{bit_and}
 use Rattle.float.proofs.Widths.{Top, found, full-low, full-high, fraction}

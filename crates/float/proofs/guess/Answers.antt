@@ -1,5 +1,4 @@
 -- `float::guess` meets its contract. Assumes nothing.
-use borrow.Author.Rules.{rules}
 use native.Mathlib.Omega.{arith}
 use Rattle.float.proofs.IntegerRoots.{product}
 use Rattle.float.proofs.guess.Goals as goal

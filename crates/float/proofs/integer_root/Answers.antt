@@ -1,5 +1,4 @@
 -- `float::integer_root` meets its contract, from the root of w. Assumes nothing.
-use borrow.Author.Rules.{rules}
 use native.Mathlib.Omega.{arith}
 use Rattle.float.proofs.IntegerRoots.{WordRoot, s-least, s-most, q-most, q-square, raised, lifted, all-digits, one-less}
 use Rattle.float.proofs.integer_root.Goals as goal

@@ -1,5 +1,4 @@
 -- `float::less` meets its contract: ranks compare as the values do. Assumes nothing.
-use borrow.Author.Rules.{rules}
 use mathlib.Core.Path.{refl, sym, ◌∙◌}
 use Rattle.float.proofs.Bits.{held, is-nan, number}
 use Rattle.float.proofs.Order.{no-lt-nan, no-nan-lt}

@@ -1,5 +1,4 @@
 -- `float::max` meets its contract: each return follows the tests that led to it. Assumes nothing.
-use borrow.Author.Rules.{rules}
 use Rattle.float.specs.Values.{maxOf}
 use Rattle.float.proofs.Bits.{nan-test}
 use Rattle.float.proofs.max.Goals as goal

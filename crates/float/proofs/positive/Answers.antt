@@ -1,5 +1,4 @@
 -- `float::positive` meets its contract: each return follows the calls and tests that led to it. Assumes nothing.
-use borrow.Author.Rules.{rules}
 use Rattle.float.specs.Values.{positiveOf}
 use lib.Ieee.{of_bits}
 use Rattle.float.proofs.positive.Goals as goal

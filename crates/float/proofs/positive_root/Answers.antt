@@ -1,5 +1,4 @@
 -- `float::positive_root` meets its contract. Assumes nothing.
-use borrow.Author.Rules.{rules}
 use native.Mathlib.Omega.{arith}
 use Rattle.float.proofs.Rounded.{width, r-high, no-nan, result-is}
 use Rattle.float.proofs.positive_root.Goals as goal

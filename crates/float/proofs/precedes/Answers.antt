@@ -1,5 +1,4 @@
 -- `float::precedes` meets its contract: keys compared as i64 decide the order. Assumes nothing.
-use borrow.Author.Rules.{rules}
 use mathlib.Core.Path.{refl, sym, ◌∙◌}
 use Rattle.float.proofs.Bits.{held}
 use Rattle.float.proofs.Keys.{keys-decide}

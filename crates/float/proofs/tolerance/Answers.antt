@@ -1,5 +1,4 @@
 -- `float::tolerance` meets its contract: each return follows the calls and tests that led to it. Assumes nothing.
-use borrow.Author.Rules.{rules}
 use Rattle.float.specs.Values.{toleranceOf}
 use lib.Ieee.{of_bits}
 use Rattle.float.proofs.tolerance.Goals as goal

@@ -1,9 +1,5 @@
 -- `float::word_root` meets its contract: no turn of the loop comes below the root. Assumes nothing.
-use Prim.Native.Nat.{ℕ, ◌-◌, ◌^◌, ◌≤◌}
-use native.Mathlib.Nat.{mul-le-mul}
-use native.Mathlib.Omega.{arith}
 use Rattle.float.specs.Sqrt.{NotBelowRoot}
-use Rattle.float.proofs.IntegerRoots.{product, not-below, lowered}
 use Rattle.float.proofs.word_root.Given as goal
 
 abbrev pub invariant-loop-r : goal.invariant-loop-r

@@ -1,5 +1,4 @@
 -- `lines_buffer::bits` meets its contract: the one NaN has the pattern that `to_bits` writes for it. Assumes nothing.
-use borrow.Author.Rules.{rules}
 use mathlib.Core.Path.{◌≡◌, refl, sym, ap, ◌∙◌}
 use lib.Ieee.{Float, nan, to_bits, binary64}
 use Rattle.float.proofs.Bits.{is-nan, number}

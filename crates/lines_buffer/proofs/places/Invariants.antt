@@ -1,10 +1,7 @@
 -- `lines_buffer::places` meets its contract: the digits that are counted and those to come are all. Assumes nothing.
 use Prim.Native.Nat.{◌+◌}
 use mathlib.Core.Path.{◌≡◌}
-use native.Mathlib.Omega.{arith}
 use Rattle.lines_buffer.specs.Texts.{placesFrom}
-use Rattle.lines_buffer.proofs.Writes.{places-stop, places-go, places-end}
-use borrow.Author.Rules.{rules}
 use Rattle.lines_buffer.proofs.places.Given as goal
 
 abbrev pub invariant-loop-k : goal.invariant-loop-k

@@ -1,5 +1,4 @@
 -- `lines_buffer::put_byte` meets its contract: one store is one byte more of a text of none. Assumes nothing.
-use borrow.Author.Rules.{rules}
 use lib.ListN.{length-set}
 use Rattle.lines_buffer.proofs.Writes.{wrote-none, wrote-more}
 use Rattle.lines_buffer.proofs.put_byte.Goals as goal

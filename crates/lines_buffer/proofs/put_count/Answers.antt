@@ -1,5 +1,4 @@
 -- `lines_buffer::put_count` meets its contract: a space, then the decimal. Assumes nothing.
-use borrow.Author.Rules.{rules}
 use native.Mathlib.Omega.{arith}
 use Rattle.lines_buffer.proofs.Writes.{then}
 use Rattle.lines_buffer.proofs.put_count.Goals as goal

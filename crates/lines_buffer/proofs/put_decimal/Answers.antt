@@ -1,5 +1,4 @@
 -- `lines_buffer::put_decimal` meets its contract: its digits are as many as the number has. Assumes nothing.
-use borrow.Author.Rules.{rules}
 use Prim.Native.Nat.{ℕ}
 use mathlib.Core.Path.{ap}
 use native.Mathlib.Omega.{arith}

@@ -1,14 +1,10 @@
 -- `lines_buffer::put_digits` meets its contract: the digits that are to come and those that stand are the numeral. Assumes nothing.
-use Prim.Native.Nat.{◌+◌, ◌-◌, ◌≤◌, ◌<◌}
-use mathlib.Core.Path.{◌≡◌, refl, ap, ◌∙◌}
-use mathlib.Core.List.{List, ◌++◌, append-nil}
-use native.Mathlib.Omega.{arith}
-use native.Mathlib.Nat.{mod-lt}
-use lib.ListN.{length, take, drop, length-set}
-use lib.Seq.{slice, slice_empty, take-set-le, drop-set-lt}
-use borrow.Author.Rules.{rules}
+use Prim.Native.Nat.{◌+◌, ◌≤◌}
+use mathlib.Core.Path.{◌≡◌}
+use mathlib.Core.List.{◌++◌}
+use lib.ListN.{length, take, drop}
+use lib.Seq.{slice}
 use Rattle.lines_buffer.specs.Texts.{numeral}
-use Rattle.lines_buffer.proofs.Writes.{moved, all-moved}
 use Rattle.lines_buffer.proofs.put_digits.Given as goal
 
 abbrev pub invariant-loop-i : goal.invariant-loop-i

@@ -1,11 +1,9 @@
 -- `lines_buffer::put_text` meets its contract: after i turns the first i bytes of the text stand. Assumes nothing.
-use Prim.Native.Nat.{◌+◌, ◌-◌, ◌≤◌}
+use Prim.Native.Nat.{◌+◌}
 use mathlib.Core.Path.{◌≡◌}
 use native.Mathlib.Omega.{arith}
-use lib.ListN.{length, take, get_or}
+use lib.ListN.{get_or}
 use lib.Seq.{take_all}
-use borrow.Author.Rules.{rules}
-use Rattle.lines_buffer.specs.Texts.{Written}
 use Rattle.lines_buffer.proofs.Writes.{wrote-none, wrote-more, wrote-is, take-more}
 use Rattle.lines_buffer.proofs.put_text.Goals as goal
 

@@ -1,5 +1,4 @@
 -- `lines_buffer::put_value` meets its contract: a space, then sixteen digits. Assumes nothing.
-use borrow.Author.Rules.{rules}
 use Prim.Native.Nat.{ℕ}
 use mathlib.Core.Path.{ap}
 use mathlib.Core.List.{◌∷◌}

@@ -1,10 +1,6 @@
 -- `lines_buffer::put_values` meets its contract: after i turns the first i coordinates stand. Assumes nothing.
-use Prim.Native.Nat.{◌+◌, ◌-◌, ◌*◌, ◌≤◌}
 use mathlib.Core.Path.{◌≡◌}
 use native.Mathlib.Omega.{arith}
-use borrow.Author.Rules.{rules}
-use Rattle.vector.specs.Lists.{first}
-use Rattle.lines_buffer.specs.Texts.{Written, valuesText}
 use Rattle.lines_buffer.proofs.Writes.{wrote-none, then, wrote-is, values-none, values-more}
 use Rattle.lines_buffer.proofs.put_values.Goals as goal
 

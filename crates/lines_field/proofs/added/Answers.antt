@@ -1,5 +1,4 @@
 -- `lines_field::added` meets its contract: each return follows the calls and tests that led to it. Assumes nothing.
-use borrow.Author.Rules.{rules}
 use Rattle.lines_field.specs.Fields.{addedOf}
 use Rattle.lines_field.proofs.added.Goals as goal
 

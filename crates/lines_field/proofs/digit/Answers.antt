@@ -1,5 +1,4 @@
 -- `lines_field::digit` meets its contract: each return follows the calls and tests that led to it. Assumes nothing.
-use borrow.Author.Rules.{rules}
 use borrow.Author.Tests.{le-leb, le-ltb, lt-leb, lt-ltb}
 use Rattle.lines_field.specs.Shapes.{digitOf}
 use Rattle.lines_field.proofs.digit.Goals as goal

@@ -1,5 +1,4 @@
 -- `lines_field::flag` meets its contract: each return follows the calls and tests that led to it. Assumes nothing.
-use borrow.Author.Rules.{rules}
 use Rattle.lines_field.specs.Fields.{flagOf}
 use Rattle.lines_field.proofs.flag.Goals as goal
 

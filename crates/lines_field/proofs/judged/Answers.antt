@@ -1,5 +1,4 @@
 -- `lines_field::judged` meets its contract: each return follows the calls and tests that led to it. Assumes nothing.
-use borrow.Author.Rules.{rules}
 use borrow.Author.Tests.{eq-eqb, ne_eqb}
 use Rattle.lines_field.specs.Fields.{judgedOf}
 use Rattle.lines_field.proofs.judged.Goals as goal

@@ -1,5 +1,4 @@
 -- `lines_field::lengthened` meets its contract: each return follows the calls and tests that led to it. Assumes nothing.
-use borrow.Author.Rules.{rules}
 use borrow.Author.Tests.{le-ltb, lt-ltb}
 use Rattle.lines_field.proofs.lengthened.Goals as goal
 

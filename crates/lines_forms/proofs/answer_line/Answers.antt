@@ -1,5 +1,4 @@
 -- `lines_forms::answer_line` meets its contract: each return follows the calls and tests that led to it. Assumes nothing.
-use borrow.Author.Rules.{rules}
 use Rattle.lines_forms.specs.Lines.{answerLineOf}
 use Rattle.lines_forms.proofs.answer_line.Goals as goal
 

@@ -1,5 +1,4 @@
 -- `lines_forms::point_holds` meets its contract: each return follows the calls and tests that led to it. Assumes nothing.
-use borrow.Author.Rules.{rules}
 use borrow.Author.Tests.{eq-eqb, ne_eqb}
 use Rattle.lines_forms.specs.Lines.{pointHoldsOf}
 use Rattle.lines_forms.proofs.point_holds.Goals as goal

@@ -1,5 +1,4 @@
 -- `lines_forms::point_line` meets its contract: each return follows the calls and tests that led to it. Assumes nothing.
-use borrow.Author.Rules.{rules}
 use Rattle.lines_forms.specs.Lines.{pointLineOf}
 use Rattle.lines_forms.proofs.point_line.Goals as goal
 

@@ -1,5 +1,4 @@
 -- `lines_forms::value` meets its contract: a pattern whose magnitude is at most the infinity's is no NaN's. Assumes nothing.
-use borrow.Author.Rules.{rules}
 use borrow.Author.Tests.{le-ltb}
 use native.Mathlib.Omega.{arith}
 use Prim.Native.Nat.{◌%◌, ◌^◌}

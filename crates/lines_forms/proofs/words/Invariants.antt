@@ -1,15 +1,11 @@
 -- `lines_forms::words` meets its contract: after i turns the first i of seventeen places are filled. Assumes nothing.
-use borrow.Author.Rules.{rules}
-use mathlib.Core.Path.{◌≡◌, refl, ◌∙◌}
-use mathlib.Core.List.{◌++◌, append-nil}
+use mathlib.Core.Path.{◌≡◌}
+use mathlib.Core.List.{◌++◌}
 use Prim.Native.Nat.{◌+◌, ◌-◌, ◌≤◌}
-use native.Mathlib.Omega.{arith}
 use lib.ListN.{replicate}
-use lib.Ieee.{of_bits}
 use Rattle.float.specs.Binary64.{plusZero}
 use Rattle.vector.specs.Loops.{upto}
-use Rattle.lines_forms.specs.Lines.{valueAt, wordsOf}
-use Rattle.lines_forms.proofs.Values.{turn}
+use Rattle.lines_forms.specs.Lines.{valueAt}
 use Rattle.lines_forms.proofs.words.Given as goal
 
 abbrev pub invariant-loop-i : goal.invariant-loop-i

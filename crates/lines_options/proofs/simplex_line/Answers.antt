@@ -1,5 +1,4 @@
 -- `lines_options::simplex_line` meets its contract: each return follows the calls and tests that led to it. Assumes nothing.
-use borrow.Author.Rules.{rules}
 use Rattle.lines_forms.specs.Lines.{wordsOf}
 use Rattle.lines_options.specs.Options.{simplexLineOf}
 use Rattle.lines_options.proofs.simplex_line.Goals as goal

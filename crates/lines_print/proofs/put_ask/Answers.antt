@@ -1,5 +1,4 @@
 -- `lines_print::put_ask` meets its contract: the parts of the line, one after another, from the start. Assumes nothing.
-use borrow.Author.Rules.{rules}
 use Rattle.lines_buffer.proofs.Writes.{then, wrote-is, whole}
 use Rattle.lines_print.proofs.Parts.{ask-line}
 use Rattle.lines_print.proofs.put_ask.Goals as goal

@@ -1,5 +1,4 @@
 -- `lines_print::put_no` meets its contract: the parts of the line, one after another, from the start. Assumes nothing.
-use borrow.Author.Rules.{rules}
 use Rattle.lines_print.specs.Print.{noText}
 use Rattle.lines_buffer.proofs.Writes.{then, whole}
 use Rattle.lines_print.proofs.put_no.Goals as goal

@@ -1,5 +1,4 @@
 -- `lines_reader::fed` meets its contract: each return follows the calls and tests that led to it. Assumes nothing.
-use borrow.Author.Rules.{rules}
 use borrow.Author.Tests.{eq-eqb, ne_eqb}
 use Rattle.lines_reader.specs.Reader.{fedOf}
 use Rattle.lines_reader.proofs.fed.Goals as goal

@@ -1,5 +1,4 @@
 -- `lines_reader::finished` meets its contract: each return follows the calls and tests that led to it. Assumes nothing.
-use borrow.Author.Rules.{rules}
 use Rattle.lines_reader.proofs.finished.Goals as goal
 
 pub returns : goal.returns

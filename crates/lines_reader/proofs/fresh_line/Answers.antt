@@ -1,5 +1,4 @@
 -- `lines_reader::fresh_line` meets its contract: each return follows the calls and tests that led to it. Assumes nothing.
-use borrow.Author.Rules.{rules}
 use Rattle.lines_reader.proofs.fresh_line.Goals as goal
 
 pub returns : goal.returns

@@ -1,5 +1,4 @@
 -- `lines_reader::one_more` meets its contract: each return follows the calls and tests that led to it. Assumes nothing.
-use borrow.Author.Rules.{rules}
 use borrow.Author.Tests.{le-ltb, lt-ltb}
 use Rattle.lines_reader.proofs.one_more.Goals as goal
 

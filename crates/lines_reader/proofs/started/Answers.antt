@@ -1,5 +1,4 @@
 -- `lines_reader::started` meets its contract: each return follows the calls and tests that led to it. Assumes nothing.
-use borrow.Author.Rules.{rules}
 use Rattle.lines_reader.proofs.started.Goals as goal
 
 pub returns : goal.returns

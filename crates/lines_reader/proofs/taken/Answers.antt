@@ -1,5 +1,4 @@
 -- `lines_reader::taken` meets its contract: each return follows the calls and tests that led to it. Assumes nothing.
-use borrow.Author.Rules.{rules}
 use Rattle.lines_reader.specs.Reader.{takenOf}
 use Rattle.lines_reader.proofs.taken.Goals as goal
 

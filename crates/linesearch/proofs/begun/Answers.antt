@@ -1,5 +1,4 @@
 -- `linesearch::begun` meets its contract: each return follows the calls and tests that led to it. Assumes nothing.
-use borrow.Author.Rules.{rules}
 use Rattle.linesearch.specs.Step.{begunOf}
 use lib.Ieee.{of_bits}
 use Rattle.linesearch.proofs.begun.Goals as goal

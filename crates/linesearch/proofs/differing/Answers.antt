@@ -1,5 +1,4 @@
 -- `linesearch::differing` meets its contract: each return follows the calls and tests that led to it. Assumes nothing.
-use borrow.Author.Rules.{rules}
 use borrow.Author.Tests.{le-ltb, lt-ltb}
 use Rattle.linesearch.specs.Step.{differingOf}
 use Rattle.linesearch.proofs.differing.Goals as goal

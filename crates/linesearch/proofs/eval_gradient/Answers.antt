@@ -1,5 +1,4 @@
 -- `linesearch::eval_gradient` meets its contract: each return follows the calls and tests that led to it. Assumes nothing.
-use borrow.Author.Rules.{rules}
 use Rattle.linesearch.specs.Step.{evalGradientOf}
 use Rattle.linesearch.proofs.eval_gradient.Goals as goal
 

@@ -1,5 +1,4 @@
 -- `linesearch::graded` meets its contract: each return follows the calls and tests that led to it. Assumes nothing.
-use borrow.Author.Rules.{rules}
 use Rattle.linesearch.specs.Step.{gradedOf}
 use Rattle.linesearch.proofs.graded.Goals as goal
 

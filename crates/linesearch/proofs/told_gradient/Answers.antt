@@ -1,5 +1,4 @@
 -- `linesearch::told_gradient` meets its contract: each return follows the calls and tests that led to it. Assumes nothing.
-use borrow.Author.Rules.{rules}
 use borrow.Author.Tests.{eq-eqb, ne_eqb}
 use Rattle.linesearch.specs.Step.{toldGradientOf}
 use Rattle.linesearch.proofs.told_gradient.Goals as goal

@@ -1,5 +1,4 @@
 -- `linesearch::valued` meets its contract: each return follows the calls and tests that led to it. Assumes nothing.
-use borrow.Author.Rules.{rules}
 use Rattle.linesearch.specs.Step.{valuedOf}
 use Rattle.linesearch.proofs.valued.Goals as goal
 

@@ -1,5 +1,4 @@
 -- `linesearch_moves::bracket` meets its contract: each return follows the calls and tests that led to it. Assumes nothing.
-use borrow.Author.Rules.{rules}
 use borrow.Author.Tests.{le-leb, lt-leb}
 use Rattle.linesearch_moves.specs.Searches.{bracketOf}
 use Rattle.linesearch_moves.proofs.bracket.Goals as goal

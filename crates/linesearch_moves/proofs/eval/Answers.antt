@@ -1,5 +1,4 @@
 -- `linesearch_moves::eval` meets its contract: each return follows the calls and tests that led to it. Assumes nothing.
-use borrow.Author.Rules.{rules}
 use mathlib.Core.Path.{refl}
 use Rattle.linesearch_moves.specs.Searches.{evalOf}
 use Rattle.linesearch_moves.proofs.eval.Goals as goal

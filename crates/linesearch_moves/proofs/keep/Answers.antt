@@ -1,5 +1,4 @@
 -- `linesearch_moves::keep` meets its contract: each return follows the calls and tests that led to it. Assumes nothing.
-use borrow.Author.Rules.{rules}
 use Rattle.linesearch_moves.specs.Searches.{keepOf}
 use Rattle.linesearch_moves.proofs.keep.Goals as goal
 

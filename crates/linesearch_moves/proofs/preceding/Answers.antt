@@ -1,5 +1,4 @@
 -- `linesearch_moves::preceding` meets its contract: each return follows the calls and tests that led to it. Assumes nothing.
-use borrow.Author.Rules.{rules}
 use Rattle.linesearch_moves.specs.Searches.{precedingOf}
 use Rattle.linesearch_moves.proofs.preceding.Goals as goal
 

@@ -1,5 +1,4 @@
 -- `linesearch_moves::zoom` meets its contract: each return follows the calls and tests that led to it. Assumes nothing.
-use borrow.Author.Rules.{rules}
 use borrow.Author.Tests.{le-leb, lt-leb}
 use Rattle.linesearch_moves.specs.Searches.{zoomOf}
 use Rattle.linesearch_moves.proofs.zoom.Goals as goal

@@ -1,5 +1,4 @@
 -- `linesearch_trials::curvature` meets its contract: each return follows the calls and tests that led to it. Assumes nothing.
-use borrow.Author.Rules.{rules}
 use Rattle.linesearch_trials.specs.Trials.{curvatureOf}
 use Rattle.linesearch_trials.proofs.curvature.Goals as goal
 

@@ -1,5 +1,4 @@
 -- `linesearch_trials::minimiser` meets its contract: each return follows the calls and tests that led to it. Assumes nothing.
-use borrow.Author.Rules.{rules}
 use Rattle.linesearch_trials.specs.Cubic.{minimiserOf}
 use lib.Ieee.{of_bits}
 use Rattle.linesearch_trials.proofs.minimiser.Goals as goal

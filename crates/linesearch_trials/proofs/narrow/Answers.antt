@@ -1,5 +1,4 @@
 -- `linesearch_trials::narrow` meets its contract: each return follows the calls and tests that led to it. Assumes nothing.
-use borrow.Author.Rules.{rules}
 use Rattle.linesearch_trials.specs.Trials.{narrowOf}
 use Rattle.linesearch_trials.proofs.narrow.Goals as goal
 

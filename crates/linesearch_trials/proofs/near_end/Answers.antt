@@ -1,5 +1,4 @@
 -- `linesearch_trials::near_end` meets its contract: each return follows the calls and tests that led to it. Assumes nothing.
-use borrow.Author.Rules.{rules}
 use Rattle.linesearch_trials.specs.Cubic.{nearEndOf}
 use Rattle.linesearch_trials.proofs.near_end.Goals as goal
 

@@ -1,5 +1,4 @@
 -- `neldermead::coefficient` meets its contract: each return follows the calls and tests that led to it. Assumes nothing.
-use borrow.Author.Rules.{rules}
 use borrow.Author.Tests.{eq-eqb, ne_eqb}
 use Rattle.neldermead.specs.Parts.{coefficientOf}
 use Rattle.neldermead.proofs.coefficient.Goals as goal

@@ -1,5 +1,4 @@
 -- `neldermead::next_at` meets its contract: each return follows the calls and tests that led to it. Assumes nothing.
-use borrow.Author.Rules.{rules}
 use borrow.Author.Tests.{eq-eqb, ne_eqb}
 use Rattle.neldermead.specs.Parts.{nextAtOf}
 use Rattle.neldermead.proofs.next_at.Goals as goal

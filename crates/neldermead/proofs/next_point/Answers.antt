@@ -1,5 +1,4 @@
 -- `neldermead::next_point` meets its contract: each return follows the calls and tests that led to it. Assumes nothing.
-use borrow.Author.Rules.{rules}
 use borrow.Author.Tests.{eq-eqb, ne_eqb}
 use Rattle.neldermead.specs.Parts.{nextPointOf}
 use Rattle.neldermead.proofs.next_point.Goals as goal

@@ -1,5 +1,4 @@
 -- `neldermead::reason` meets its contract: each return follows the calls and tests that led to it. Assumes nothing.
-use borrow.Author.Rules.{rules}
 use Rattle.neldermead.specs.Step.{reasonOf}
 use Rattle.neldermead.proofs.reason.Goals as goal
 

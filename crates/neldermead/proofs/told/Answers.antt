@@ -2,9 +2,7 @@
 use borrow.Author.Rules.{rules}
 use Prim.Native.Nat.{◌<◌}
 use mathlib.Core.Path.{◌≡◌, ap, ◌∙◌}
-use mathlib.Core.Logic.{⊎_elim}
 use native.Mathlib.Omega.{arith}
-use borrow.Author.Tests.{not-true, not-false}
 use Rattle.neldermead.specs.declared.Simplex.{Simplex}
 use Rattle.neldermead.specs.Step.{headedOf, toldOf}
 use Rattle.neldermead.proofs.Moves.{noted, keptOf, putOf, onwardOf, put-at, put-phase, noted-taken, noted-left, kept-taken, kept-left, put-taken, put-left, onward-fails, onward-whole, onward-heads, onward-asks, told-by, corner-below, far-below}

@@ -1,5 +1,4 @@
 -- `neldermead::verdict` meets its contract: each return follows the calls and tests that led to it. Assumes nothing.
-use borrow.Author.Rules.{rules}
 use borrow.Author.Tests.{le-leb, lt-leb}
 use Rattle.neldermead.specs.Parts.{verdictOf}
 use Rattle.neldermead.proofs.verdict.Goals as goal

@@ -1,10 +1,7 @@
 -- `neldermead_vertices::any_finite` meets its contract: after i turns it has made what the definition makes of i. Assumes nothing.
-use borrow.Author.Rules.{rules}
-use mathlib.Core.Bool.{false}
 use mathlib.Core.Path.{refl, sym, ◌∙◌}
-use Prim.Native.Nat.{◌-◌}
 use Rattle.neldermead_vertices.specs.Vertices.{anyFiniteOf}
-use Rattle.vector.proofs.Loops.{Made, start, carried, left-with, done}
+use Rattle.vector.proofs.Loops.{start, carried, left-with, done}
 use Rattle.neldermead_vertices.proofs.any_finite.Goals as goal
 
 pub loop-i-init : goal.loop-i-init

@@ -1,5 +1,4 @@
 -- `neldermead_vertices::contraction` meets its contract: each return follows the calls and tests that led to it. Assumes nothing.
-use borrow.Author.Rules.{rules}
 use Rattle.neldermead_vertices.specs.Method.{gamma}
 use Rattle.neldermead_vertices.proofs.contraction.Goals as goal
 

@@ -1,7 +1,5 @@
 -- `neldermead_vertices::converged` meets its contract: each return follows the calls and tests that led to it, and the order of the two tests does
 -- not matter. Assumes nothing.
-use borrow.Author.Rules.{rules}
-use borrow.Author.Tests.{not-true, not-false}
 use mathlib.Core.Path.{◌≡◌, refl}
 use mathlib.Core.Bool.{Bool, true, false, cond}
 use Rattle.neldermead_vertices.specs.Vertices.{convergedOf}

@@ -1,5 +1,4 @@
 -- `neldermead_vertices::corner` meets its contract: each return follows the calls and tests that led to it. Assumes nothing.
-use borrow.Author.Rules.{rules}
 use Rattle.neldermead_vertices.specs.Vertices.{cornerOf}
 use Rattle.neldermead_vertices.proofs.corner.Goals as goal
 

@@ -1,5 +1,4 @@
 -- `neldermead_vertices::edge` meets its contract: each return follows the calls and tests that led to it. Assumes nothing.
-use borrow.Author.Rules.{rules}
 use Rattle.neldermead_vertices.specs.Method.{displaced}
 use lib.Ieee.{of_bits}
 use Rattle.neldermead_vertices.proofs.edge.Goals as goal

@@ -1,5 +1,4 @@
 -- `neldermead_vertices::expansion` meets its contract: each return follows the calls and tests that led to it. Assumes nothing.
-use borrow.Author.Rules.{rules}
 use Rattle.neldermead_vertices.specs.Method.{beta}
 use Rattle.neldermead_vertices.proofs.expansion.Goals as goal
 

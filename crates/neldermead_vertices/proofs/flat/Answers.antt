@@ -1,5 +1,4 @@
 -- `neldermead_vertices::flat` meets its contract: each return follows the calls and tests that led to it. Assumes nothing.
-use borrow.Author.Rules.{rules}
 use Rattle.neldermead_vertices.specs.Vertices.{flatOf}
 use Rattle.neldermead_vertices.proofs.flat.Goals as goal
 

@@ -1,5 +1,4 @@
 -- `neldermead_vertices::reduction` meets its contract: each return follows the calls and tests that led to it. Assumes nothing.
-use borrow.Author.Rules.{rules}
 use Rattle.neldermead_vertices.specs.Method.{delta}
 use Rattle.neldermead_vertices.proofs.reduction.Goals as goal
 

@@ -1,10 +1,8 @@
 -- `neldermead_vertices::size` meets its contract: after i turns it has made what the definition makes of i. Assumes nothing.
-use borrow.Author.Rules.{rules}
 use mathlib.Core.Path.{refl}
-use Prim.Native.Nat.{◌-◌}
 use lib.Ieee.{of_bits}
 use Rattle.neldermead_vertices.specs.Vertices.{sizeOf}
-use Rattle.vector.proofs.Loops.{Made, start, carried, done}
+use Rattle.vector.proofs.Loops.{start, carried, done}
 use Rattle.neldermead_vertices.proofs.size.Goals as goal
 
 pub loop-i-init : goal.loop-i-init

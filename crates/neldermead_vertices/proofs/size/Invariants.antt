@@ -1,10 +1,7 @@
 -- `neldermead_vertices::size` meets its contract: after i turns it has made what the definition makes of i. Assumes nothing.
-use borrow.Author.Rules.{rules}
-use mathlib.Core.Path.{refl}
 use Prim.Native.Nat.{◌-◌}
-use lib.Ieee.{of_bits}
 use Rattle.neldermead_vertices.specs.Vertices.{sizeOf}
-use Rattle.vector.proofs.Loops.{Made, start, carried, done}
+use Rattle.vector.proofs.Loops.{Made}
 use Rattle.neldermead_vertices.proofs.size.Given as goal
 
 abbrev pub invariant-loop-i : goal.invariant-loop-i

@@ -1,15 +1,13 @@
 -- `neldermead_vertices::sorted` meets its contract: the vertices from i on are in order; in a turn, what is left to do with place j free is what
 -- was to do with place i. Assumes nothing.
 use borrow.Author.Rules.{rules}
-use borrow.Author.Tests.{not-true, not-false}
-use Prim.Native.Nat.{◌-◌, ◌≤◌}
+use Prim.Native.Nat.{◌-◌}
 use mathlib.Core.Path.{◌≡◌, refl, sym, ap, ◌∙◌}
 use mathlib.Core.List.{List}
-use mathlib.Core.Logic.{⊎_elim}
 use native.Mathlib.Omega.{arith}
 use lib.ListN.{length, length-set}
 use Rattle.neldermead_vertices.specs.declared.Vertex.{Vertex}
-use Rattle.neldermead_vertices.specs.Vertices.{putOf, insertedOf, sortedOf}
+use Rattle.neldermead_vertices.specs.Vertices.{insertedOf, sortedOf}
 use Rattle.neldermead_vertices.proofs.Insertion.{put-goes, put-stays, put-ends, sortedFrom, sorted-starts, sorted-goes}
 use Rattle.neldermead_vertices.proofs.sorted.Goals as goal
 use Rattle.neldermead_vertices.proofs.sorted.Goals.{else-loop-j-test, then-loop-j-test+then-not-precedes}
@@ -41,11 +39,11 @@ loop-i-preserved c =
       omega arith,
       simp length-set still,
       elim c.loop-j-test.branch [
-        else-loop-j-test w ↦
-          let end : l.j ≡ a.n = omega (arith, w.loop-j-test.false) in
-          rw end (put-ends _ l.w a.n (omega arith)) ∙ rw end at l.invariant.2 ∙ next
+        | else-loop-j-test w ↦
+            let end : l.j ≡ a.n = omega (arith, w.loop-j-test.false) in
+            rw end (put-ends _ l.w a.n (omega arith)) ∙ rw end at l.invariant.2 ∙ next
         | then-loop-j-test+then-not-precedes w ↦
-          put-stays _ l.w _ (omega arith) l.j w.loop-j-test.true (sym w.precedes.ensures ∙ w.if-not-precedes.true) ∙ l.invariant.2 ∙ next
+            put-stays _ l.w _ (omega arith) l.j w.loop-j-test.true (sym w.precedes.ensures ∙ w.if-not-precedes.true) ∙ l.invariant.2 ∙ next
       ],
     )
 

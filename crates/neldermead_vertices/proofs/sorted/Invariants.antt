@@ -1,16 +1,10 @@
 -- `neldermead_vertices::sorted` meets its contract: the vertices from i on are in order; in a turn, what is left to do with place j free is what
 -- was to do with place i. Assumes nothing.
-use borrow.Author.Rules.{rules}
-use borrow.Author.Tests.{not-true, not-false}
 use Prim.Native.Nat.{◌-◌, ◌≤◌}
-use mathlib.Core.Path.{◌≡◌, refl, sym, ap, ◌∙◌}
-use mathlib.Core.List.{List}
-use mathlib.Core.Logic.{⊎_elim}
-use native.Mathlib.Omega.{arith}
-use lib.ListN.{length, length-set}
-use Rattle.neldermead_vertices.specs.declared.Vertex.{Vertex}
-use Rattle.neldermead_vertices.specs.Vertices.{putOf, insertedOf, sortedOf}
-use Rattle.neldermead_vertices.proofs.Insertion.{put-goes, put-stays, put-ends, sortedFrom, sorted-starts, sorted-goes}
+use mathlib.Core.Path.{◌≡◌}
+use lib.ListN.{length}
+use Rattle.neldermead_vertices.specs.Vertices.{putOf}
+use Rattle.neldermead_vertices.proofs.Insertion.{sortedFrom}
 use Rattle.neldermead_vertices.proofs.sorted.Given as goal
 
 abbrev pub invariant-loop-j : goal.invariant-loop-j

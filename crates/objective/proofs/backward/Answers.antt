@@ -1,5 +1,4 @@
 -- `objective::backward` meets its contract: each return follows the calls and tests that led to it. Assumes nothing.
-use borrow.Author.Rules.{rules}
 use Rattle.objective.specs.Algorithm.{backwardOf}
 use Rattle.objective.proofs.backward.Goals as goal
 

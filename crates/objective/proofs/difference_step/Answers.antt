@@ -1,5 +1,4 @@
 -- `objective::difference_step` meets its contract: each return follows the calls and tests that led to it. Assumes nothing.
-use borrow.Author.Rules.{rules}
 use Rattle.objective.specs.Algorithm.{differenceStep}
 use Rattle.objective.proofs.difference_step.Goals as goal
 

@@ -1,5 +1,4 @@
 -- `objective::forward` meets its contract: each return follows the calls and tests that led to it. Assumes nothing.
-use borrow.Author.Rules.{rules}
 use Rattle.objective.specs.Algorithm.{forwardOf}
 use Rattle.objective.proofs.forward.Goals as goal
 

@@ -1,5 +1,4 @@
 -- `objective::probe` meets its contract: each return follows the calls and tests that led to it. Assumes nothing.
-use borrow.Author.Rules.{rules}
 use Rattle.objective.specs.Step.{probeOf}
 use Rattle.objective.proofs.probe.Goals as goal
 

@@ -1,5 +1,4 @@
 -- `objective::read` meets its contract: each return follows the calls and tests that led to it. Assumes nothing.
-use borrow.Author.Rules.{rules}
 use lib.Ieee.{div, of_bits}
 use Rattle.protocol.specs.Protocol.{readOf}
 use Rattle.objective.proofs.read.Goals as goal

@@ -1,5 +1,4 @@
 -- `objective::told` meets its contract: each return follows the calls and tests that led to it. Assumes nothing.
-use borrow.Author.Rules.{rules}
 use Rattle.objective.specs.Step.{toldOf}
 use lib.Ieee.{of_bits}
 use Rattle.objective.specs.Algorithm.{slopeAt}

@@ -1,5 +1,4 @@
 -- `optim::answer` meets its contract: the record that is kept, where its branches meet, and what is said of it. Assumes nothing.
-use borrow.Author.Rules.{rules}
 use borrow.Author.Tests.{ne_eqb}
 use Prim.Native.Nat.{ℕ}
 use mathlib.Core.Path.{◌≡◌, sym, ap, subst, ◌∙◌}
@@ -69,7 +68,7 @@ settled-next-requires c =
     let r = c.args.r in
     let words = c.args.words.now in
     let model_is : c.if-stores.q ≡ withParts r r.diff r.simplex r.descent (modelOf r words) = elim c.if-stores.branch [
-      then-stores u ↦ u.q-is ∙ ap (λ (m : Model). withParts r r.diff r.simplex r.descent m) (model-stored r words _ _ c.gradient_fixed-fixed.ensures c.descent_told-told.ensures _ _ c.stores.ensures u.if-stores.true u.updated-model.ensures)
+      | then-stores u ↦ u.q-is ∙ ap (λ (m : Model). withParts r r.diff r.simplex r.descent m) (model-stored r words _ _ c.gradient_fixed-fixed.ensures c.descent_told-told.ensures _ _ c.stores.ensures u.if-stores.true u.updated-model.ensures)
       | else-stores u ↦ u.q-is ∙ ap (λ (m : Model). withParts r r.diff r.simplex r.descent m) (model-left r words _ _ c.gradient_fixed-fixed.ensures c.descent_told-told.ensures _ c.stores.ensures u.if-stores.false)
     ] in
     let took = decides c.args.r c.args.number c.args.kind c.args.words.now _ _ true c.meets-why.ensures c.accepts.ensures c.if-accepts.true in
@@ -94,16 +93,16 @@ overflow_add-q c =
     let r = c.args.r in
     let words = c.args.words.now in
     let parts_are : c.if-q-eq-SIMPLEX.q ≡ movedOf r words = elim c.if-q-eq-SIMPLEX.branch [
-      then-q-eq-SIMPLEX w ↦ w.q-is ∙ simplex-moved r words _ w.if-q-eq-SIMPLEX.true w.simplex_told-next.ensures
+      | then-q-eq-SIMPLEX w ↦ w.q-is ∙ simplex-moved r words _ w.if-q-eq-SIMPLEX.true w.simplex_told-next.ensures
       | else-q-eq-SIMPLEX+then-q-eq-SEARCH w ↦ w.q-is ∙ search-moved r words w.if-q-eq-SIMPLEX.false _ w.if-q-eq-SEARCH.true w.search_told-next.ensures
       | else-q-eq-SIMPLEX+else-q-eq-SEARCH+then-gradient_job+then-asks w ↦ w.q-is ∙ asking-moved r words w.if-q-eq-SIMPLEX.false w.if-q-eq-SEARCH.false _ w.gradient_job.ensures _ w.if-gradient_job.true w.descent_told-told.ensures (sym w.asks.ensures ∙ w.if-asks.true)
       | else-q-eq-SIMPLEX+else-q-eq-SEARCH+then-gradient_job+else-asks w ↦
-        let model : w.if-stores.q ≡ withParts r r.diff r.simplex r.descent (modelOf r words) = elim w.if-stores.branch [
-          then-stores u ↦ u.q-is ∙ ap (λ (m : Model). withParts r r.diff r.simplex r.descent m) (model-stored r words _ _ w.gradient_fixed-fixed.ensures w.descent_told-told.ensures _ _ w.stores.ensures u.if-stores.true u.updated-model.ensures)
-          | else-stores u ↦ u.q-is ∙ ap (λ (m : Model). withParts r r.diff r.simplex r.descent m) (model-left r words _ _ w.gradient_fixed-fixed.ensures w.descent_told-told.ensures _ w.stores.ensures u.if-stores.false)
-        ] in
-        w.q-is ∙ descent-moved r words w.if-q-eq-SIMPLEX.false w.if-q-eq-SEARCH.false _ w.gradient_job.ensures w.if-stores.q _ w.if-gradient_job.true model
-        (descent-on r words _ _ w.gradient_fixed-fixed.ensures w.descent_told-told.ensures w.if-stores.q.model _ _ (ap (λ (p : Record). p.model) model) c.counted-counts.ensures w.settled-next.ensures)
+          let model : w.if-stores.q ≡ withParts r r.diff r.simplex r.descent (modelOf r words) = elim w.if-stores.branch [
+            | then-stores u ↦ u.q-is ∙ ap (λ (m : Model). withParts r r.diff r.simplex r.descent m) (model-stored r words _ _ w.gradient_fixed-fixed.ensures w.descent_told-told.ensures _ _ w.stores.ensures u.if-stores.true u.updated-model.ensures)
+            | else-stores u ↦ u.q-is ∙ ap (λ (m : Model). withParts r r.diff r.simplex r.descent m) (model-left r words _ _ w.gradient_fixed-fixed.ensures w.descent_told-told.ensures _ w.stores.ensures u.if-stores.false)
+          ] in
+          w.q-is ∙ descent-moved r words w.if-q-eq-SIMPLEX.false w.if-q-eq-SEARCH.false _ w.gradient_job.ensures w.if-stores.q _ w.if-gradient_job.true model
+          (descent-on r words _ _ w.gradient_fixed-fixed.ensures w.descent_told-told.ensures w.if-stores.q.model _ _ (ap (λ (p : Record). p.model) model) c.counted-counts.ensures w.settled-next.ensures)
       | else-q-eq-SIMPLEX+else-q-eq-SEARCH+else-gradient_job w ↦ w.q-is ∙ differences-moved r words w.if-q-eq-SIMPLEX.false w.if-q-eq-SEARCH.false _ w.gradient_job.ensures _ w.if-gradient_job.false w.told-next.ensures
     ] in
     let took = decides c.args.r c.args.number c.args.kind c.args.words.now _ _ true c.meets-why.ensures c.accepts.ensures c.if-accepts.true in
@@ -115,21 +114,21 @@ replied-s-requires c =
     let r = c.args.r in
     let words = c.args.words.now in
     let kept-is : c.if-accepts.q ≡ keptOf r c.args.number c.args.kind words = elim c.if-accepts.branch [
-      then-accepts v ↦
-        let parts_are : v.if-q-eq-SIMPLEX.q ≡ movedOf r words = elim v.if-q-eq-SIMPLEX.branch [
-          then-q-eq-SIMPLEX w ↦ w.q-is ∙ simplex-moved r words _ w.if-q-eq-SIMPLEX.true w.simplex_told-next.ensures
-          | else-q-eq-SIMPLEX+then-q-eq-SEARCH w ↦ w.q-is ∙ search-moved r words w.if-q-eq-SIMPLEX.false _ w.if-q-eq-SEARCH.true w.search_told-next.ensures
-          | else-q-eq-SIMPLEX+else-q-eq-SEARCH+then-gradient_job+then-asks w ↦ w.q-is ∙ asking-moved r words w.if-q-eq-SIMPLEX.false w.if-q-eq-SEARCH.false _ w.gradient_job.ensures _ w.if-gradient_job.true w.descent_told-told.ensures (sym w.asks.ensures ∙ w.if-asks.true)
-          | else-q-eq-SIMPLEX+else-q-eq-SEARCH+then-gradient_job+else-asks w ↦
-            let model : w.if-stores.q ≡ withParts r r.diff r.simplex r.descent (modelOf r words) = elim w.if-stores.branch [
-              then-stores u ↦ u.q-is ∙ ap (λ (m : Model). withParts r r.diff r.simplex r.descent m) (model-stored r words _ _ w.gradient_fixed-fixed.ensures w.descent_told-told.ensures _ _ w.stores.ensures u.if-stores.true u.updated-model.ensures)
-              | else-stores u ↦ u.q-is ∙ ap (λ (m : Model). withParts r r.diff r.simplex r.descent m) (model-left r words _ _ w.gradient_fixed-fixed.ensures w.descent_told-told.ensures _ w.stores.ensures u.if-stores.false)
-            ] in
-            w.q-is ∙ descent-moved r words w.if-q-eq-SIMPLEX.false w.if-q-eq-SEARCH.false _ w.gradient_job.ensures w.if-stores.q _ w.if-gradient_job.true model
-            (descent-on r words _ _ w.gradient_fixed-fixed.ensures w.descent_told-told.ensures w.if-stores.q.model _ _ (ap (λ (p : Record). p.model) model) v.counted-counts.ensures w.settled-next.ensures)
-          | else-q-eq-SIMPLEX+else-q-eq-SEARCH+else-gradient_job w ↦ w.q-is ∙ differences-moved r words w.if-q-eq-SIMPLEX.false w.if-q-eq-SEARCH.false _ w.gradient_job.ensures _ w.if-gradient_job.false w.told-next.ensures
-        ] in
-        v.q-is ∙ kept-moved r c.args.number c.args.kind words v.if-q-eq-SIMPLEX.q _ (decides r c.args.number c.args.kind words _ _ true c.meets-why.ensures c.accepts.ensures v.if-accepts.true) parts_are v.counted-counts.ensures
+      | then-accepts v ↦
+          let parts_are : v.if-q-eq-SIMPLEX.q ≡ movedOf r words = elim v.if-q-eq-SIMPLEX.branch [
+            | then-q-eq-SIMPLEX w ↦ w.q-is ∙ simplex-moved r words _ w.if-q-eq-SIMPLEX.true w.simplex_told-next.ensures
+            | else-q-eq-SIMPLEX+then-q-eq-SEARCH w ↦ w.q-is ∙ search-moved r words w.if-q-eq-SIMPLEX.false _ w.if-q-eq-SEARCH.true w.search_told-next.ensures
+            | else-q-eq-SIMPLEX+else-q-eq-SEARCH+then-gradient_job+then-asks w ↦ w.q-is ∙ asking-moved r words w.if-q-eq-SIMPLEX.false w.if-q-eq-SEARCH.false _ w.gradient_job.ensures _ w.if-gradient_job.true w.descent_told-told.ensures (sym w.asks.ensures ∙ w.if-asks.true)
+            | else-q-eq-SIMPLEX+else-q-eq-SEARCH+then-gradient_job+else-asks w ↦
+                let model : w.if-stores.q ≡ withParts r r.diff r.simplex r.descent (modelOf r words) = elim w.if-stores.branch [
+                  | then-stores u ↦ u.q-is ∙ ap (λ (m : Model). withParts r r.diff r.simplex r.descent m) (model-stored r words _ _ w.gradient_fixed-fixed.ensures w.descent_told-told.ensures _ _ w.stores.ensures u.if-stores.true u.updated-model.ensures)
+                  | else-stores u ↦ u.q-is ∙ ap (λ (m : Model). withParts r r.diff r.simplex r.descent m) (model-left r words _ _ w.gradient_fixed-fixed.ensures w.descent_told-told.ensures _ w.stores.ensures u.if-stores.false)
+                ] in
+                w.q-is ∙ descent-moved r words w.if-q-eq-SIMPLEX.false w.if-q-eq-SEARCH.false _ w.gradient_job.ensures w.if-stores.q _ w.if-gradient_job.true model
+                (descent-on r words _ _ w.gradient_fixed-fixed.ensures w.descent_told-told.ensures w.if-stores.q.model _ _ (ap (λ (p : Record). p.model) model) v.counted-counts.ensures w.settled-next.ensures)
+            | else-q-eq-SIMPLEX+else-q-eq-SEARCH+else-gradient_job w ↦ w.q-is ∙ differences-moved r words w.if-q-eq-SIMPLEX.false w.if-q-eq-SEARCH.false _ w.gradient_job.ensures _ w.if-gradient_job.false w.told-next.ensures
+          ] in
+          v.q-is ∙ kept-moved r c.args.number c.args.kind words v.if-q-eq-SIMPLEX.q _ (decides r c.args.number c.args.kind words _ _ true c.meets-why.ensures c.accepts.ensures v.if-accepts.true) parts_are v.counted-counts.ensures
       | else-accepts v ↦ v.q-is ∙ kept-left r c.args.number c.args.kind words (decides r c.args.number c.args.kind words _ _ false c.meets-why.ensures c.accepts.ensures v.if-accepts.false)
     ] in
     λ z. subst Stands (sym kept-is) (kept-stands r c.args.number c.args.kind words (sym c.meets-why.ensures ∙ z))
@@ -139,21 +138,21 @@ returns c =
     let r = c.args.r in
     let words = c.args.words.now in
     let kept-is : c.if-accepts.q ≡ keptOf r c.args.number c.args.kind words = elim c.if-accepts.branch [
-      then-accepts v ↦
-        let parts_are : v.if-q-eq-SIMPLEX.q ≡ movedOf r words = elim v.if-q-eq-SIMPLEX.branch [
-          then-q-eq-SIMPLEX w ↦ w.q-is ∙ simplex-moved r words _ w.if-q-eq-SIMPLEX.true w.simplex_told-next.ensures
-          | else-q-eq-SIMPLEX+then-q-eq-SEARCH w ↦ w.q-is ∙ search-moved r words w.if-q-eq-SIMPLEX.false _ w.if-q-eq-SEARCH.true w.search_told-next.ensures
-          | else-q-eq-SIMPLEX+else-q-eq-SEARCH+then-gradient_job+then-asks w ↦ w.q-is ∙ asking-moved r words w.if-q-eq-SIMPLEX.false w.if-q-eq-SEARCH.false _ w.gradient_job.ensures _ w.if-gradient_job.true w.descent_told-told.ensures (sym w.asks.ensures ∙ w.if-asks.true)
-          | else-q-eq-SIMPLEX+else-q-eq-SEARCH+then-gradient_job+else-asks w ↦
-            let model : w.if-stores.q ≡ withParts r r.diff r.simplex r.descent (modelOf r words) = elim w.if-stores.branch [
-              then-stores u ↦ u.q-is ∙ ap (λ (m : Model). withParts r r.diff r.simplex r.descent m) (model-stored r words _ _ w.gradient_fixed-fixed.ensures w.descent_told-told.ensures _ _ w.stores.ensures u.if-stores.true u.updated-model.ensures)
-              | else-stores u ↦ u.q-is ∙ ap (λ (m : Model). withParts r r.diff r.simplex r.descent m) (model-left r words _ _ w.gradient_fixed-fixed.ensures w.descent_told-told.ensures _ w.stores.ensures u.if-stores.false)
-            ] in
-            w.q-is ∙ descent-moved r words w.if-q-eq-SIMPLEX.false w.if-q-eq-SEARCH.false _ w.gradient_job.ensures w.if-stores.q _ w.if-gradient_job.true model
-            (descent-on r words _ _ w.gradient_fixed-fixed.ensures w.descent_told-told.ensures w.if-stores.q.model _ _ (ap (λ (p : Record). p.model) model) v.counted-counts.ensures w.settled-next.ensures)
-          | else-q-eq-SIMPLEX+else-q-eq-SEARCH+else-gradient_job w ↦ w.q-is ∙ differences-moved r words w.if-q-eq-SIMPLEX.false w.if-q-eq-SEARCH.false _ w.gradient_job.ensures _ w.if-gradient_job.false w.told-next.ensures
-        ] in
-        v.q-is ∙ kept-moved r c.args.number c.args.kind words v.if-q-eq-SIMPLEX.q _ (decides r c.args.number c.args.kind words _ _ true c.meets-why.ensures c.accepts.ensures v.if-accepts.true) parts_are v.counted-counts.ensures
+      | then-accepts v ↦
+          let parts_are : v.if-q-eq-SIMPLEX.q ≡ movedOf r words = elim v.if-q-eq-SIMPLEX.branch [
+            | then-q-eq-SIMPLEX w ↦ w.q-is ∙ simplex-moved r words _ w.if-q-eq-SIMPLEX.true w.simplex_told-next.ensures
+            | else-q-eq-SIMPLEX+then-q-eq-SEARCH w ↦ w.q-is ∙ search-moved r words w.if-q-eq-SIMPLEX.false _ w.if-q-eq-SEARCH.true w.search_told-next.ensures
+            | else-q-eq-SIMPLEX+else-q-eq-SEARCH+then-gradient_job+then-asks w ↦ w.q-is ∙ asking-moved r words w.if-q-eq-SIMPLEX.false w.if-q-eq-SEARCH.false _ w.gradient_job.ensures _ w.if-gradient_job.true w.descent_told-told.ensures (sym w.asks.ensures ∙ w.if-asks.true)
+            | else-q-eq-SIMPLEX+else-q-eq-SEARCH+then-gradient_job+else-asks w ↦
+                let model : w.if-stores.q ≡ withParts r r.diff r.simplex r.descent (modelOf r words) = elim w.if-stores.branch [
+                  | then-stores u ↦ u.q-is ∙ ap (λ (m : Model). withParts r r.diff r.simplex r.descent m) (model-stored r words _ _ w.gradient_fixed-fixed.ensures w.descent_told-told.ensures _ _ w.stores.ensures u.if-stores.true u.updated-model.ensures)
+                  | else-stores u ↦ u.q-is ∙ ap (λ (m : Model). withParts r r.diff r.simplex r.descent m) (model-left r words _ _ w.gradient_fixed-fixed.ensures w.descent_told-told.ensures _ w.stores.ensures u.if-stores.false)
+                ] in
+                w.q-is ∙ descent-moved r words w.if-q-eq-SIMPLEX.false w.if-q-eq-SEARCH.false _ w.gradient_job.ensures w.if-stores.q _ w.if-gradient_job.true model
+                (descent-on r words _ _ w.gradient_fixed-fixed.ensures w.descent_told-told.ensures w.if-stores.q.model _ _ (ap (λ (p : Record). p.model) model) v.counted-counts.ensures w.settled-next.ensures)
+            | else-q-eq-SIMPLEX+else-q-eq-SEARCH+else-gradient_job w ↦ w.q-is ∙ differences-moved r words w.if-q-eq-SIMPLEX.false w.if-q-eq-SEARCH.false _ w.gradient_job.ensures _ w.if-gradient_job.false w.told-next.ensures
+          ] in
+          v.q-is ∙ kept-moved r c.args.number c.args.kind words v.if-q-eq-SIMPLEX.q _ (decides r c.args.number c.args.kind words _ _ true c.meets-why.ensures c.accepts.ensures v.if-accepts.true) parts_are v.counted-counts.ensures
       | else-accepts v ↦ v.q-is ∙ kept-left r c.args.number c.args.kind words (decides r c.args.number c.args.kind words _ _ false c.meets-why.ensures c.accepts.ensures v.if-accepts.false)
     ] in
     says-also _ _ _ (c.answered.ensures.0 ∙ c.replied-s.ensures.0, c.answered.ensures.1 ∙ c.replied-s.ensures.1) (rw (kept-is, c.meets-why.ensures) (replies r c.args.number c.args.kind words))

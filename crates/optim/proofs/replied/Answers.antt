@@ -1,5 +1,4 @@
 -- `optim::replied` meets its contract: each return follows the calls and tests that led to it. Assumes nothing.
-use borrow.Author.Rules.{rules}
 use borrow.Author.Tests.{eq-eqb, ne_eqb}
 use Rattle.optim.specs.Parts.{repliedOf}
 use Rattle.protocol.specs.Protocol.{replyOf}

@@ -1,5 +1,4 @@
 -- `optim_first_record::begun_search` meets its contract: each return follows the calls and tests that led to it. Assumes nothing.
-use borrow.Author.Rules.{rules}
 use Rattle.optim_first_record.specs.Starts.{begunSearchOf}
 use lib.Ieee.{of_bits}
 use Rattle.optim_first_record.proofs.begun_search.Goals as goal

@@ -1,5 +1,4 @@
 -- `optim_first_record::search_refusal` meets its contract: each return follows the calls and tests that led to it. Assumes nothing.
-use borrow.Author.Rules.{rules}
 use borrow.Author.Tests.{eq-eqb, ne_eqb}
 use Rattle.optim_first_record.specs.Starts.{searchRefusalOf}
 use Rattle.optim_first_record.proofs.search_refusal.Goals as goal

@@ -1,5 +1,4 @@
 -- `optim_first_record::simplex_limits` meets its contract: each return follows the calls and tests that led to it. Assumes nothing.
-use borrow.Author.Rules.{rules}
 use Rattle.optim_first_record.specs.Starts.{simplexLimitsOf}
 use Rattle.optim_first_record.proofs.Limits.{default-fits}
 use Rattle.optim_first_record.proofs.simplex_limits.Goals as goal

@@ -1,5 +1,4 @@
 -- `optim_first_record::simplex_record` meets its contract: each return follows the calls and tests that led to it. Assumes nothing.
-use borrow.Author.Rules.{rules}
 use Rattle.optim_first_record.specs.Starts.{simplexRecordOf}
 use lib.Ieee.{of_bits}
 use Rattle.optim_first_record.proofs.simplex_record.Goals as goal

@@ -1,11 +1,7 @@
 -- `optim_lent::formed` meets its contract: the flags from i on are known where all are. Assumes nothing.
 use borrow.Author.Rules.{rules}
-use Prim.Native.Nat.{◌-◌, ◌≤◌}
-use mathlib.Core.Path.{◌≡◌, refl, sym, ◌∙◌}
+use mathlib.Core.Path.{refl, sym, ◌∙◌}
 use native.Mathlib.Omega.{arith}
-use lib.ListN.{length, drop}
-use Rattle.optim_lists.specs.Layout as place
-use Rattle.optim_lists.specs.Lists.{flagsOnly}
 use Rattle.optim_lent.proofs.Laws.{flags-stop, flags-go, flags-end}
 use Rattle.optim_lent.proofs.formed.Goals as goal
 

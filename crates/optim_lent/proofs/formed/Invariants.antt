@@ -1,12 +1,9 @@
 -- `optim_lent::formed` meets its contract: the flags from i on are known where all are. Assumes nothing.
-use borrow.Author.Rules.{rules}
 use Prim.Native.Nat.{◌-◌, ◌≤◌}
-use mathlib.Core.Path.{◌≡◌, refl, sym, ◌∙◌}
-use native.Mathlib.Omega.{arith}
+use mathlib.Core.Path.{◌≡◌}
 use lib.ListN.{length, drop}
 use Rattle.optim_lists.specs.Layout as place
 use Rattle.optim_lists.specs.Lists.{flagsOnly}
-use Rattle.optim_lent.proofs.Laws.{flags-stop, flags-go, flags-end}
 use Rattle.optim_lent.proofs.formed.Given as goal
 
 abbrev pub invariant-loop-i : goal.invariant-loop-i

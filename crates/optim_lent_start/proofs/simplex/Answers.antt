@@ -1,5 +1,4 @@
 -- `optim_lent_start::simplex` meets its contract, by what its start says. Assumes nothing.
-use borrow.Author.Rules.{rules}
 use mathlib.Core.Path.{sym, ap, ◌∙◌}
 use Rattle.optim_reply.specs.Spoken.{spokenBy}
 use Rattle.optim_lent_start.proofs.Laws.{start-as}

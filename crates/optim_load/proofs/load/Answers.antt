@@ -1,5 +1,4 @@
 -- `optim_load::load` meets its contract, by its parts. Assumes nothing.
-use borrow.Author.Rules.{rules}
 use Rattle.optim_lists.specs.Lists.{lists}
 use Rattle.optim_load.proofs.Laws.{record-by}
 use Rattle.optim_load.proofs.load.Goals as goal

@@ -1,5 +1,4 @@
 -- `optim_load::load_model` meets its contract, by its pairs. Assumes nothing.
-use borrow.Author.Rules.{rules}
 use mathlib.Core.Path.{ap, ◌∙◌}
 use mathlib.Core.List.{List}
 use Rattle.quasinewton_limited.specs.declared.Pair.{Pair}

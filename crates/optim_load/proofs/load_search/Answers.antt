@@ -1,5 +1,4 @@
 -- `optim_load::load_search` meets its contract, by its parts. Assumes nothing.
-use borrow.Author.Rules.{rules}
 use mathlib.Core.Path.{◌∙◌}
 use Rattle.optim_load.proofs.Laws.{search-by}
 use Rattle.optim_load.proofs.load_search.Goals as goal

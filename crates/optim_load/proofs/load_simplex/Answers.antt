@@ -1,5 +1,4 @@
 -- `optim_load::load_simplex` meets its contract, by its vertices. Assumes nothing.
-use borrow.Author.Rules.{rules}
 use mathlib.Core.Path.{ap, ◌∙◌}
 use mathlib.Core.List.{List}
 use Rattle.neldermead_vertices.specs.declared.Vertex.{Vertex}

@@ -1,5 +1,4 @@
 -- `optim_record::valid` meets its contract: each return follows the calls and tests that led to it. Assumes nothing.
-use borrow.Author.Rules.{rules}
 use borrow.Author.Tests.{eq-eqb, le-ltb, lt-ltb, ne_eqb}
 use Rattle.optim_record.specs.Record.{validOf}
 use Rattle.optim_record.proofs.valid.Goals as goal

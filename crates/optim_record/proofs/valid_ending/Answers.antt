@@ -1,5 +1,4 @@
 -- `optim_record::valid_ending` meets its contract: each return follows the calls and tests that led to it. Assumes nothing.
-use borrow.Author.Rules.{rules}
 use borrow.Author.Tests.{eq-eqb, ne_eqb}
 use Rattle.optim_record.specs.Record.{validEndingOf}
 use Rattle.optim_record.proofs.valid_ending.Goals as goal

@@ -1,5 +1,4 @@
 -- `optim_reply::asks` meets its contract: each return follows the calls and tests that led to it. Assumes nothing.
-use borrow.Author.Rules.{rules}
 use mathlib.Core.Path.{refl}
 use lib.Ieee.{of_bits}
 use Rattle.optim_reply.proofs.asks.Goals as goal

@@ -1,5 +1,4 @@
 -- `optim_reply::descent_ends` meets its contract: each return follows the calls and tests that led to it. Assumes nothing.
-use borrow.Author.Rules.{rules}
 use lib.Ieee.{of_bits}
 use Rattle.optim_reply.proofs.descent_ends.Goals as goal
 

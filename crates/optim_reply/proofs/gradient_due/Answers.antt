@@ -1,5 +1,4 @@
 -- `optim_reply::gradient_due` meets its contract: each return follows the calls and tests that led to it. Assumes nothing.
-use borrow.Author.Rules.{rules}
 use borrow.Author.Tests.{eq-eqb, ne_eqb}
 use Rattle.optim_reply.specs.Standing.{gradientDueOf}
 use Rattle.optim_reply.proofs.gradient_due.Goals as goal

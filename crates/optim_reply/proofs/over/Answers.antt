@@ -1,5 +1,4 @@
 -- `optim_reply::over` meets its contract: each return follows the calls and tests that led to it. Assumes nothing.
-use borrow.Author.Rules.{rules}
 use borrow.Author.Tests.{eq-eqb, ne_eqb}
 use Rattle.optim_reply.specs.Standing.{overOf}
 use Rattle.optim_reply.proofs.over.Goals as goal

@@ -1,5 +1,4 @@
 -- `optim_reply::standing_search` meets its contract: each return follows the calls and tests that led to it. Assumes nothing.
-use borrow.Author.Rules.{rules}
 use borrow.Author.Tests.{eq-eqb, le-ltb, lt-ltb, ne_eqb}
 use Rattle.optim_reply.specs.Spoken.{searchSpokenOf}
 use Rattle.optim_reply.proofs.standing_search.Goals as goal

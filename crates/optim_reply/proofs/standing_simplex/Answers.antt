@@ -1,5 +1,4 @@
 -- `optim_reply::standing_simplex` meets its contract: each return follows the calls and tests that led to it. Assumes nothing.
-use borrow.Author.Rules.{rules}
 use borrow.Author.Tests.{eq-eqb, le-leb, lt-leb, ne_eqb}
 use Rattle.optim_reply.specs.Spoken.{simplexSpokenOf}
 use Rattle.optim_reply.proofs.standing_simplex.Goals as goal

@@ -1,5 +1,4 @@
 -- `optim_rules::counted` meets its contract: each return follows the calls and tests that led to it. Assumes nothing.
-use borrow.Author.Rules.{rules}
 use Rattle.optim_rules.specs.Moves.{countedOf}
 use Rattle.optim_rules.proofs.counted.Goals as goal
 

@@ -1,5 +1,4 @@
 -- `optim_rules::descent_told` meets its contract: each return follows the calls and tests that led to it. Assumes nothing.
-use borrow.Author.Rules.{rules}
 use Rattle.optim_rules.specs.Moves.{descentToldOf}
 use mathlib.Core.Path.{sym, ◌∙◌}
 use native.Mathlib.Omega.{arith}

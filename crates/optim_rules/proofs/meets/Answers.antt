@@ -1,8 +1,6 @@
 -- `optim_rules::meets` meets its contract: each return follows the calls and tests that led to it. Assumes nothing.
-use borrow.Author.Rules.{rules}
 use borrow.Author.Tests.{eq-eqb, ne_eqb}
 use Rattle.optim_rules.specs.Rules.{meetsOf}
-use borrow.Author.Tests.{not-false}
 use mathlib.Core.Path.{sym, ◌∙◌}
 use native.Mathlib.Omega.{arith}
 use Rattle.optim_rules.proofs.Ranges.{ranges}

@@ -1,5 +1,4 @@
 -- `optim_rules::search_told` meets its contract: each return follows the calls and tests that led to it. Assumes nothing.
-use borrow.Author.Rules.{rules}
 use Rattle.optim_rules.specs.Moves.{searchToldOf}
 use mathlib.Core.Path.{sym, ◌∙◌}
 use native.Mathlib.Omega.{arith}

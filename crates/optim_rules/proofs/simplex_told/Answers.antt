@@ -1,5 +1,4 @@
 -- `optim_rules::simplex_told` meets its contract: each return follows the calls and tests that led to it. Assumes nothing.
-use borrow.Author.Rules.{rules}
 use Rattle.optim_rules.specs.Moves.{simplexToldOf}
 use Rattle.optim_rules.proofs.simplex_told.Goals as goal
 

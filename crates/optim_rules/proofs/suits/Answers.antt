@@ -1,5 +1,4 @@
 -- `optim_rules::suits` meets its contract: each return follows the calls and tests that led to it. Assumes nothing.
-use borrow.Author.Rules.{rules}
 use borrow.Author.Tests.{eq-eqb, ne_eqb}
 use Rattle.optim_rules.specs.Rules.{suitsOf}
 use Rattle.optim_rules.proofs.suits.Goals as goal

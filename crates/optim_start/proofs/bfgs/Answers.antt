@@ -1,5 +1,4 @@
 -- `optim_start::bfgs` meets its contract: each return follows the calls and tests that led to it. Assumes nothing.
-use borrow.Author.Rules.{rules}
 use Rattle.optim_start.specs.Start.{bfgsOf}
 use Rattle.optim_start.proofs.bfgs.Goals as goal
 

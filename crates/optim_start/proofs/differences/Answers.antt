@@ -1,5 +1,4 @@
 -- `optim_start::differences` meets its contract: each return follows the calls and tests that led to it. Assumes nothing.
-use borrow.Author.Rules.{rules}
 use borrow.Author.Tests.{le-ltb, lt-ltb}
 use Rattle.optim_start.specs.Start.{differencesOf}
 use mathlib.Core.Path.{sym, subst, ◌∙◌}

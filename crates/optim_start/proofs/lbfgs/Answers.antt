@@ -1,5 +1,4 @@
 -- `optim_start::lbfgs` meets its contract: each return follows the calls and tests that led to it. Assumes nothing.
-use borrow.Author.Rules.{rules}
 use Rattle.optim_start.specs.Start.{lbfgsOf}
 use Rattle.optim_start.proofs.lbfgs.Goals as goal
 

@@ -1,5 +1,4 @@
 -- `optim_start::refused` meets its contract: each return follows the calls and tests that led to it. Assumes nothing.
-use borrow.Author.Rules.{rules}
 use mathlib.Core.Path.{◌∙◌}
 use Rattle.protocol.specs.Protocol.{replyOf}
 use Rattle.optim_reply.specs.Spoken.{replyWith}

@@ -1,5 +1,4 @@
 -- `optim_start::search_opened` meets its contract: what is said of the parts is said. Assumes nothing.
-use borrow.Author.Rules.{rules}
 use Rattle.optim_start.proofs.search_opened.Goals as goal
 
 pub standing_search-requires : goal.standing_search-requires

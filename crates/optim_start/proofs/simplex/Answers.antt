@@ -1,5 +1,4 @@
 -- `optim_start::simplex` meets its contract: each return follows the calls and tests that led to it. Assumes nothing.
-use borrow.Author.Rules.{rules}
 use borrow.Author.Tests.{eq-eqb, ne_eqb}
 use Rattle.optim_start.specs.Start.{simplexOf}
 use mathlib.Core.Path.{sym, ap, subst, ◌∙◌}

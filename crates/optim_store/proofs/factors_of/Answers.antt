@@ -1,11 +1,9 @@
 -- `optim_store::factors_of` meets its contract: after i turns the first i factors are set. Assumes nothing.
 use borrow.Author.Rules.{rules}
-use Prim.Native.Nat.{◌-◌}
-use mathlib.Core.Path.{◌≡◌, refl, ◌∙◌}
-use lib.ListN.{length}
+use mathlib.Core.Path.{refl, ◌∙◌}
 use Rattle.quasinewton_limited.specs.declared.Pair.{Pair}
-use Rattle.quasinewton_limited.specs.Step.{noPair, pairAt}
-use Rattle.optim_lists.proofs.Places.{map-places, Setting, set-starts, set-goes, set-ends}
+use Rattle.quasinewton_limited.specs.Step.{noPair}
+use Rattle.optim_lists.proofs.Places.{map-places, set-starts, set-goes, set-ends}
 use Rattle.optim_store.proofs.factors_of.Goals as goal
 
 pub loop-i-init : goal.loop-i-init

@@ -1,5 +1,4 @@
 -- `optim_store::store_model` meets its contract, by the arrays that it copies. Assumes nothing.
-use borrow.Author.Rules.{rules}
 use mathlib.Core.Path.{refl}
 use Rattle.optim_store.proofs.store_model.Goals as goal
 

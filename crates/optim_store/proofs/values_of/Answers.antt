@@ -1,11 +1,9 @@
 -- `optim_store::values_of` meets its contract: after i turns the first i values are set. Assumes nothing.
 use borrow.Author.Rules.{rules}
-use Prim.Native.Nat.{◌-◌}
-use mathlib.Core.Path.{◌≡◌, refl, ◌∙◌}
-use lib.ListN.{length}
+use mathlib.Core.Path.{refl, ◌∙◌}
 use Rattle.neldermead_vertices.specs.declared.Vertex.{Vertex}
-use Rattle.neldermead_vertices.specs.Vertices.{noVertex, vertexAt}
-use Rattle.optim_lists.proofs.Places.{map-places, Setting, set-starts, set-goes, set-ends}
+use Rattle.neldermead_vertices.specs.Vertices.{noVertex}
+use Rattle.optim_lists.proofs.Places.{map-places, set-starts, set-goes, set-ends}
 use Rattle.optim_store.proofs.values_of.Goals as goal
 
 pub loop-i-init : goal.loop-i-init

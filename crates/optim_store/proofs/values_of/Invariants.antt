@@ -1,11 +1,9 @@
 -- `optim_store::values_of` meets its contract: after i turns the first i values are set. Assumes nothing.
-use borrow.Author.Rules.{rules}
 use Prim.Native.Nat.{◌-◌}
-use mathlib.Core.Path.{◌≡◌, refl, ◌∙◌}
+use mathlib.Core.Path.{◌≡◌}
 use lib.ListN.{length}
-use Rattle.neldermead_vertices.specs.declared.Vertex.{Vertex}
-use Rattle.neldermead_vertices.specs.Vertices.{noVertex, vertexAt}
-use Rattle.optim_lists.proofs.Places.{map-places, Setting, set-starts, set-goes, set-ends}
+use Rattle.neldermead_vertices.specs.Vertices.{vertexAt}
+use Rattle.optim_lists.proofs.Places.{Setting}
 use Rattle.optim_store.proofs.values_of.Given as goal
 
 abbrev pub invariant-loop-i : goal.invariant-loop-i

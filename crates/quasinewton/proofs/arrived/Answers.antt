@@ -1,5 +1,4 @@
 -- `quasinewton::arrived` meets its contract: each return follows the calls and tests that led to it. Assumes nothing.
-use borrow.Author.Rules.{rules}
 use borrow.Author.Tests.{eq-eqb, ne_eqb}
 use Rattle.quasinewton.specs.Step.{arrivedOf}
 use Rattle.quasinewton.proofs.arrived.Goals as goal

@@ -1,5 +1,4 @@
 -- `quasinewton::updated` meets its contract: each return follows the calls and tests that led to it. Assumes nothing.
-use borrow.Author.Rules.{rules}
 use Rattle.quasinewton.specs.Step.{updatedOf}
 use Rattle.quasinewton.proofs.updated.Goals as goal
 

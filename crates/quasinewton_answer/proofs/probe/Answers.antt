@@ -1,5 +1,4 @@
 -- `quasinewton_answer::probe` meets its contract: each return follows the calls and tests that led to it. Assumes nothing.
-use borrow.Author.Rules.{rules}
 use borrow.Author.Tests.{eq-eqb, le-ltb, lt-ltb, ne_eqb}
 use Rattle.quasinewton_answer.specs.Questions.{probeOf}
 use Rattle.quasinewton_answer.proofs.probe.Goals as goal

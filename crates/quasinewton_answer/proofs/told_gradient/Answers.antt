@@ -1,5 +1,4 @@
 -- `quasinewton_answer::told_gradient` meets its contract: each return follows the calls and tests that led to it. Assumes nothing.
-use borrow.Author.Rules.{rules}
 use borrow.Author.Tests.{eq-eqb, ne_eqb}
 use Rattle.quasinewton_answer.specs.Questions.{toldGradientOf}
 use Rattle.quasinewton_answer.proofs.told_gradient.Goals as goal

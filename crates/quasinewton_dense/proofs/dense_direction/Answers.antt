@@ -1,5 +1,4 @@
 -- `quasinewton_dense::dense_direction` meets its contract: each return follows the calls and tests that led to it. Assumes nothing.
-use borrow.Author.Rules.{rules}
 use Rattle.quasinewton_dense.specs.Step.{denseDirectionOf}
 use Rattle.quasinewton_dense.proofs.dense_direction.Goals as goal
 

@@ -1,5 +1,4 @@
 -- `quasinewton_dense::dense_update` meets its contract: each return follows the calls and tests that led to it. Assumes nothing.
-use borrow.Author.Rules.{rules}
 use Rattle.quasinewton_dense.specs.Step.{denseUpdateOf}
 use Rattle.quasinewton_dense.proofs.dense_update.Goals as goal
 

@@ -1,9 +1,6 @@
 -- `quasinewton_dense::diagonal` meets its contract: after i turns it has made what the definition makes of i. Assumes nothing.
-use borrow.Author.Rules.{rules}
-use mathlib.Core.Path.{refl}
 use Prim.Native.Nat.{◌-◌}
-use lib.Ieee.{of_bits}
-use Rattle.vector.proofs.Loops.{Made, start, carried, done}
+use Rattle.vector.proofs.Loops.{Made}
 use Rattle.quasinewton_dense.specs.Step.{diagonalOf}
 use Rattle.quasinewton_dense.proofs.diagonal.Given as goal
 

@@ -1,5 +1,4 @@
 -- `quasinewton_dense::prepared` meets its contract: each return follows the calls and tests that led to it. Assumes nothing.
-use borrow.Author.Rules.{rules}
 use Rattle.quasinewton_dense.specs.Step.{preparedOf}
 use lib.Ieee.{of_bits}
 use Rattle.quasinewton_dense.proofs.prepared.Goals as goal

@@ -1,8 +1,6 @@
 -- `quasinewton_dense::update_row` meets its contract: after j turns it has made what the definition makes of j. Assumes nothing.
-use borrow.Author.Rules.{rules}
-use mathlib.Core.Path.{refl}
 use Prim.Native.Nat.{◌-◌}
-use Rattle.vector.proofs.Loops.{Made, start, carried, done}
+use Rattle.vector.proofs.Loops.{Made}
 use Rattle.quasinewton_dense.specs.Step.{updateRowOf}
 use Rattle.quasinewton_dense.proofs.update_row.Given as goal
 

@@ -1,8 +1,7 @@
 -- `quasinewton_dense::update_rows` meets its contract: after i turns it has made what the definition makes of i. Assumes nothing.
 use borrow.Author.Rules.{rules}
 use mathlib.Core.Path.{refl}
-use Prim.Native.Nat.{◌-◌}
-use Rattle.vector.proofs.Loops.{Made, start, carried, done}
+use Rattle.vector.proofs.Loops.{start, carried, done}
 use Rattle.quasinewton_dense.specs.Step.{updateRowsOf}
 use Rattle.quasinewton_dense.proofs.update_rows.Goals as goal
 

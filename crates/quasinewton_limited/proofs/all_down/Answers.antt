@@ -1,7 +1,6 @@
 -- `quasinewton_limited::all_down` meets its contract: what is left to do with i pairs to go is what was to do at the start. Assumes nothing.
 use borrow.Author.Rules.{rules}
-use Prim.Native.Nat.{◌≤◌}
-use mathlib.Core.Path.{◌≡◌, refl, ap, ◌∙◌}
+use mathlib.Core.Path.{refl, ap, ◌∙◌}
 use lib.Ieee.{of_bits}
 use Rattle.quasinewton_limited.specs.Step.{downFrom, allDownOf}
 use Rattle.quasinewton_limited.proofs.Loops.{down-goes, down-ends}

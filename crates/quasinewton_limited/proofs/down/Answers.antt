@@ -1,5 +1,4 @@
 -- `quasinewton_limited::down` meets its contract: each return follows the calls and tests that led to it. Assumes nothing.
-use borrow.Author.Rules.{rules}
 use Rattle.quasinewton_limited.specs.Step.{downOf}
 use Rattle.quasinewton_limited.proofs.down.Goals as goal
 

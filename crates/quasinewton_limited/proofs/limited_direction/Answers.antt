@@ -1,5 +1,4 @@
 -- `quasinewton_limited::limited_direction` meets its contract: each return follows the calls and tests that led to it. Assumes nothing.
-use borrow.Author.Rules.{rules}
 use Rattle.quasinewton_limited.specs.Step.{limitedDirectionOf}
 use Rattle.quasinewton_limited.proofs.limited_direction.Goals as goal
 

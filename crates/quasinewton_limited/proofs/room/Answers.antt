@@ -1,5 +1,4 @@
 -- `quasinewton_limited::room` meets its contract: each return follows the calls and tests that led to it. Assumes nothing.
-use borrow.Author.Rules.{rules}
 use borrow.Author.Tests.{eq-eqb, ne_eqb}
 use Rattle.quasinewton_limited.specs.Step.{roomOf}
 use Rattle.quasinewton_limited.proofs.room.Goals as goal

@@ -1,8 +1,6 @@
 -- `quasinewton_limited::shifted` meets its contract: after i turns it has made what the definition makes of i. Assumes nothing.
-use borrow.Author.Rules.{rules}
-use mathlib.Core.Path.{refl}
 use Prim.Native.Nat.{◌-◌}
-use Rattle.vector.proofs.Loops.{Made, start, carried, done}
+use Rattle.vector.proofs.Loops.{Made}
 use Rattle.quasinewton_limited.specs.Step.{shiftedOf}
 use Rattle.quasinewton_limited.proofs.shifted.Given as goal
 

@@ -1,5 +1,4 @@
 -- `quasinewton_limited::up` meets its contract: each return follows the calls and tests that led to it. Assumes nothing.
-use borrow.Author.Rules.{rules}
 use Rattle.quasinewton_limited.specs.Step.{upOf}
 use Rattle.quasinewton_limited.proofs.up.Goals as goal
 

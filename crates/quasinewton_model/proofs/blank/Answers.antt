@@ -1,5 +1,4 @@
 -- `quasinewton_model::blank` meets its contract: each return follows the calls and tests that led to it. Assumes nothing.
-use borrow.Author.Rules.{rules}
 use Rattle.quasinewton_model.specs.Step.{blankOf}
 use lib.Ieee.{of_bits}
 use Rattle.quasinewton_model.proofs.blank.Goals as goal

@@ -1,5 +1,4 @@
 -- `quasinewton_model::new_model` meets its contract: each return follows the calls and tests that led to it. Assumes nothing.
-use borrow.Author.Rules.{rules}
 use Rattle.quasinewton_model.specs.Step.{newModelOf}
 use Rattle.quasinewton_model.proofs.new_model.Goals as goal
 

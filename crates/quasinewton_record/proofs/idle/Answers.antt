@@ -1,5 +1,4 @@
 -- `quasinewton_record::idle` meets its contract: each return follows the calls and tests that led to it. Assumes nothing.
-use borrow.Author.Rules.{rules}
 use Rattle.quasinewton_record.specs.Descents.{idleOf}
 use lib.Ieee.{of_bits}
 use Rattle.quasinewton_record.proofs.idle.Goals as goal

@@ -1,5 +1,4 @@
 -- `quasinewton_record::no_trial` meets its contract: each return follows the calls and tests that led to it. Assumes nothing.
-use borrow.Author.Rules.{rules}
 use lib.Ieee.{of_bits}
 use Rattle.quasinewton_record.proofs.no_trial.Goals as goal
 

@@ -1,5 +1,4 @@
 -- `quasinewton_record::start` meets its contract: each return follows the calls and tests that led to it. Assumes nothing.
-use borrow.Author.Rules.{rules}
 use Rattle.quasinewton_record.specs.Descents.{startOf}
 use lib.Ieee.{of_bits}
 use Rattle.quasinewton_record.proofs.start.Goals as goal

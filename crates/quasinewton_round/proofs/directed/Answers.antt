@@ -1,5 +1,4 @@
 -- `quasinewton_round::directed` meets its contract: each return follows the calls and tests that led to it. Assumes nothing.
-use borrow.Author.Rules.{rules}
 use Rattle.quasinewton_round.specs.Rounds.{directedOf}
 use Rattle.quasinewton_round.proofs.directed.Goals as goal
 

@@ -1,5 +1,4 @@
 -- `quasinewton_round::headed` meets its contract: each return follows the calls and tests that led to it. Assumes nothing.
-use borrow.Author.Rules.{rules}
 use borrow.Author.Tests.{le-leb, lt-leb}
 use Rattle.quasinewton_round.specs.Rounds.{headedOf}
 use Rattle.quasinewton_round.proofs.headed.Goals as goal

@@ -1,5 +1,4 @@
 -- `quasinewton_round::searched` meets its contract: each return follows the calls and tests that led to it. Assumes nothing.
-use borrow.Author.Rules.{rules}
 use borrow.Author.Tests.{eq-eqb, ne_eqb}
 use Rattle.quasinewton_round.specs.Rounds.{searchedOf}
 use Rattle.quasinewton_round.proofs.searched.Goals as goal

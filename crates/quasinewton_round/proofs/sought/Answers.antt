@@ -1,5 +1,4 @@
 -- `quasinewton_round::sought` meets its contract: each return follows the calls and tests that led to it. Assumes nothing.
-use borrow.Author.Rules.{rules}
 use Rattle.quasinewton_round.specs.Rounds.{soughtOf}
 use Rattle.quasinewton_round.proofs.sought.Goals as goal
 

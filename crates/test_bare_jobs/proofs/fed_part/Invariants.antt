@@ -1,5 +1,4 @@
 -- `test_bare_jobs::fed_part` is safe and ends: each turn has one fewer to come. Assumes nothing.
-use borrow.Author.Rules.{rules}
 use Rattle.test_bare_jobs.proofs.fed_part.Given as goal
 
 abbrev pub invariant-loop-left : goal.invariant-loop-left

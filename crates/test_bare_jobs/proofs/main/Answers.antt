@@ -1,8 +1,6 @@
 -- `test_bare_jobs::main` is safe and ends: each turn has one fewer to come. Assumes nothing.
 use borrow.Author.Rules.{rules}
-use mathlib.Core.Path.{◌≡◌}
 use native.Mathlib.Omega.{arith}
-use lib.ListN.{length}
 use Rattle.test_bare_jobs.proofs.main.Goals as goal
 
 pub loop-turns-smaller : goal.loop-turns-smaller

@@ -1,7 +1,5 @@
 -- `test_bare_jobs::main` is safe and ends: each turn has one fewer to come. Assumes nothing.
-use borrow.Author.Rules.{rules}
 use mathlib.Core.Path.{◌≡◌}
-use native.Mathlib.Omega.{arith}
 use lib.ListN.{length}
 use Rattle.test_bare_jobs.proofs.main.Given as goal
 

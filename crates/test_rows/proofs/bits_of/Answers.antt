@@ -1,5 +1,4 @@
 -- `test_rows::bits_of` meets its contract: a value that differs from itself is the NaN, whose pattern the definition has, and another is no NaN. Assumes nothing.
-use borrow.Author.Rules.{rules}
 use lib.Ieee.{to_bits}
 use Rattle.float.proofs.Bits.{is-nan, number}
 use Rattle.test_rows.proofs.bits_of.Goals as goal

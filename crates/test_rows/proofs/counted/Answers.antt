@@ -1,5 +1,4 @@
 -- `test_rows::counted` meets its contract: each return follows the calls and tests that led to it. Assumes nothing.
-use borrow.Author.Rules.{rules}
 use borrow.Author.Tests.{eq-eqb, ne_eqb}
 use Rattle.test_rows.specs.Rows.{countedOf}
 use Rattle.test_rows.proofs.counted.Goals as goal

@@ -1,5 +1,4 @@
 -- `test_rows::digit` meets its contract: each return follows the calls and tests that led to it. Assumes nothing.
-use borrow.Author.Rules.{rules}
 use borrow.Author.Tests.{le-leb, le-ltb, lt-leb, lt-ltb}
 use Rattle.test_rows.specs.Rows.{digitOf}
 use Rattle.test_rows.proofs.digit.Goals as goal

@@ -1,5 +1,4 @@
 -- `test_rows::put_report` meets its contract: the parts of the line, one after another, from the start. Assumes nothing.
-use borrow.Author.Rules.{rules}
 use native.Mathlib.Omega.{arith}
 use Rattle.lines_buffer.proofs.Writes.{then, whole}
 use Rattle.test_rows.specs.Rows.{reportText}

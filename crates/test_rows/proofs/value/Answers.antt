@@ -1,5 +1,4 @@
 -- `test_rows::value` meets its contract: a pattern whose magnitude is above the infinity's is a NaN's, and no other is. Assumes nothing.
-use borrow.Author.Rules.{rules}
 use borrow.Author.Tests.{le-ltb}
 use native.Mathlib.Omega.{arith}
 use Prim.Native.Nat.{◌%◌, ◌^◌}

@@ -1,11 +1,7 @@
 -- `vector::all_finite` meets its contract: after i turns it has made what the definition makes of i. Assumes nothing.
-use borrow.Author.Rules.{rules}
-use borrow.Author.Tests.{not-true, not-false}
-use mathlib.Core.Bool.{true}
 use mathlib.Core.Path.{refl, sym, ◌∙◌}
-use Prim.Native.Nat.{◌-◌}
 use Rattle.vector.specs.Points.{allFiniteOf}
-use Rattle.vector.proofs.Loops.{Made, start, carried, left-with, done}
+use Rattle.vector.proofs.Loops.{start, carried, left-with, done}
 use Rattle.vector.proofs.all_finite.Goals as goal
 
 pub loop-i-init : goal.loop-i-init

@@ -1,11 +1,8 @@
 -- `vector::all_finite` meets its contract: after i turns it has made what the definition makes of i. Assumes nothing.
-use borrow.Author.Rules.{rules}
-use borrow.Author.Tests.{not-true, not-false}
 use mathlib.Core.Bool.{true}
-use mathlib.Core.Path.{refl, sym, ◌∙◌}
 use Prim.Native.Nat.{◌-◌}
 use Rattle.vector.specs.Points.{allFiniteOf}
-use Rattle.vector.proofs.Loops.{Made, start, carried, left-with, done}
+use Rattle.vector.proofs.Loops.{Made}
 use Rattle.vector.proofs.all_finite.Given as goal
 
 abbrev pub invariant-loop-i : goal.invariant-loop-i

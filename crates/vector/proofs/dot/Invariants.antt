@@ -1,10 +1,7 @@
 -- `vector::dot` meets its contract: after i turns it has made what the definition makes of i. Assumes nothing.
-use borrow.Author.Rules.{rules}
-use mathlib.Core.Path.{refl}
 use Prim.Native.Nat.{◌-◌}
-use lib.Ieee.{of_bits, neg}
 use Rattle.vector.specs.Points.{dotOf}
-use Rattle.vector.proofs.Loops.{Made, start, carried, done}
+use Rattle.vector.proofs.Loops.{Made}
 use Rattle.vector.proofs.dot.Given as goal
 
 abbrev pub invariant-loop-i : goal.invariant-loop-i

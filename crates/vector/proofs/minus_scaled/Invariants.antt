@@ -1,10 +1,7 @@
 -- `vector::minus_scaled` meets its contract: after i turns it has made what the definition makes of i. Assumes nothing.
-use borrow.Author.Rules.{rules}
-use mathlib.Core.Path.{refl}
 use Prim.Native.Nat.{◌-◌}
-use lib.Ieee.{of_bits}
 use Rattle.vector.specs.Points.{minusScaledOf}
-use Rattle.vector.proofs.Loops.{Made, start, filled, done}
+use Rattle.vector.proofs.Loops.{Made}
 use Rattle.vector.proofs.minus_scaled.Given as goal
 
 abbrev pub invariant-loop-i : goal.invariant-loop-i

@@ -1,10 +1,8 @@
 -- `vector::row_dot` meets its contract: after j turns it has made what the definition makes of j. Assumes nothing.
-use borrow.Author.Rules.{rules}
 use mathlib.Core.Path.{refl}
-use Prim.Native.Nat.{◌-◌}
 use lib.Ieee.{of_bits, neg}
 use Rattle.vector.specs.Points.{rowDotOf}
-use Rattle.vector.proofs.Loops.{Made, start, carried, done}
+use Rattle.vector.proofs.Loops.{start, carried, done}
 use Rattle.vector.proofs.row_dot.Goals as goal
 
 pub loop-j-init : goal.loop-j-init

@@ -1,10 +1,8 @@
 -- `vector::towards` meets its contract: after i turns it has made what the definition makes of i. Assumes nothing.
-use borrow.Author.Rules.{rules}
 use mathlib.Core.Path.{refl}
-use Prim.Native.Nat.{◌-◌}
 use lib.Ieee.{of_bits}
 use Rattle.vector.specs.Points.{towardsOf}
-use Rattle.vector.proofs.Loops.{Made, start, filled, done}
+use Rattle.vector.proofs.Loops.{start, filled, done}
 use Rattle.vector.proofs.towards.Goals as goal
 
 pub loop-i-init : goal.loop-i-init

@@ -1,5 +1,4 @@
 -- `c_api::lists::fit_all_finite` meets its contract: each return follows the calls and tests that led to it. Assumes nothing.
-use borrow.Author.Rules.{rules}
 use borrow.Author.Tests.{le-ltb, lt-ltb}
 use Rattle.c_api.specs.Lists.{listFiniteOf}
 use Rattle.c_api.proofs.lists.fit_all_finite.Goals as goal

@@ -1,5 +1,4 @@
 -- `c_api::lists::fit_dot` meets its contract: each return follows the calls and tests that led to it. Assumes nothing.
-use borrow.Author.Rules.{rules}
 use borrow.Author.Tests.{le-ltb, lt-ltb, eq-eqb, ne_eqb}
 use lib.Ieee.{div, of_bits}
 use Rattle.c_api.specs.Lists.{listDotOf}

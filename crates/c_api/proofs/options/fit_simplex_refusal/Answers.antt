@@ -1,5 +1,4 @@
 -- `c_api::options::fit_simplex_refusal` meets its contract: each return follows the calls and tests that led to it. Assumes nothing.
-use borrow.Author.Rules.{rules}
 use Rattle.c_api.proofs.options.fit_simplex_refusal.Goals as goal
 
 pub returns : goal.returns

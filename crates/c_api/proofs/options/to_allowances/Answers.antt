@@ -1,5 +1,4 @@
 -- `c_api::options::to_allowances` meets its contract: each return follows the calls and tests that led to it. Assumes nothing.
-use borrow.Author.Rules.{rules}
 use Rattle.c_api.specs.Options.{toAllowancesOf}
 use Rattle.c_api.proofs.options.to_allowances.Goals as goal
 

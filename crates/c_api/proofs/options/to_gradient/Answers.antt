@@ -1,5 +1,4 @@
 -- `c_api::options::to_gradient` meets its contract: each return follows the calls and tests that led to it. Assumes nothing.
-use borrow.Author.Rules.{rules}
 use Rattle.c_api.specs.Options.{toGradientOf}
 use Rattle.c_api.proofs.options.to_gradient.Goals as goal
 

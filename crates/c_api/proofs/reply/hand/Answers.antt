@@ -1,5 +1,4 @@
 -- `c_api::reply::hand` meets its contract: each kind of reply. Assumes nothing.
-use borrow.Author.Rules.{rules}
 use lib.Ieee.{of_bits}
 use Rattle.c_api.proofs.Laws.{ask-made, fit-made, search-made, gradient-made, refusal-made}
 use Rattle.c_api.proofs.reply.hand.Goals as goal

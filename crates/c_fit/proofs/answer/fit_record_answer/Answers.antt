@@ -1,5 +1,4 @@
 -- `c_fit::answer::fit_record_answer` meets its contract: what the engine says is handed on. Assumes nothing.
-use borrow.Author.Rules.{rules}
 use Rattle.c_fit.proofs.Laws.{handed}
 use Rattle.c_fit.proofs.answer.fit_record_answer.Goals as goal
 

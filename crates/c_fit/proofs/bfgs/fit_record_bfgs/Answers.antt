@@ -1,5 +1,4 @@
 -- `c_fit::bfgs::fit_record_bfgs` meets its contract: what the engine says is handed on. Assumes nothing.
-use borrow.Author.Rules.{rules}
 use Rattle.optim_start.specs.Start.{bfgsOf}
 use Rattle.c_fit.proofs.Laws.{handed-as, fit-as}
 use Rattle.c_fit.proofs.bfgs.fit_record_bfgs.Goals as goal

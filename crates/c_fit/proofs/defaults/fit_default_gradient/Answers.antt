@@ -1,5 +1,4 @@
 -- `c_fit::defaults::fit_default_gradient` meets its contract: each constant by its bits. Assumes nothing.
-use borrow.Author.Rules.{rules}
 use lib.Ieee.{of_bits}
 use Rattle.c_fit.specs.Defaults.{defaultGradient}
 use Rattle.c_fit.proofs.defaults.fit_default_gradient.Goals as goal

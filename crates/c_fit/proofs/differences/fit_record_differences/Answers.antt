@@ -1,5 +1,4 @@
 -- `c_fit::differences::fit_record_differences` meets its contract: what the engine says is handed on. Assumes nothing.
-use borrow.Author.Rules.{rules}
 use Rattle.c_fit.proofs.Laws.{handed}
 use Rattle.c_fit.proofs.differences.fit_record_differences.Goals as goal
 

@@ -1,5 +1,4 @@
 -- `c_fit::lbfgs::fit_record_lbfgs` meets its contract: what the engine says is handed on. Assumes nothing.
-use borrow.Author.Rules.{rules}
 use Rattle.optim_start.specs.Start.{lbfgsOf}
 use Rattle.c_fit.proofs.Laws.{handed-as, fit-as}
 use Rattle.c_fit.proofs.lbfgs.fit_record_lbfgs.Goals as goal

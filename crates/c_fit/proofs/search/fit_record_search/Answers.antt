@@ -1,5 +1,4 @@
 -- `c_fit::search::fit_record_search` meets its contract: what the engine says is handed on. Assumes nothing.
-use borrow.Author.Rules.{rules}
 use Rattle.c_fit.proofs.Laws.{handed-as, search-as}
 use Rattle.c_fit.proofs.search.fit_record_search.Goals as goal
 

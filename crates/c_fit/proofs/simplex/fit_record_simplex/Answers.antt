@@ -1,5 +1,4 @@
 -- `c_fit::simplex::fit_record_simplex` meets its contract: what the engine says is handed on. Assumes nothing.
-use borrow.Author.Rules.{rules}
 use Rattle.optim_start.specs.Start.{simplexOf}
 use Rattle.c_fit.proofs.Laws.{handed-as, fit-as}
 use Rattle.c_fit.proofs.simplex.fit_record_simplex.Goals as goal

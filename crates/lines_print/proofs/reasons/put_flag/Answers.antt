@@ -1,5 +1,4 @@
 -- `lines_print::reasons::put_flag` meets its contract: each answer is its text. Assumes nothing.
-use borrow.Author.Rules.{rules}
 use native.Mathlib.Omega.{arith}
 use Rattle.lines_buffer.proofs.Writes.{wrote-is}
 use Rattle.lines_print.proofs.reasons.put_flag.Goals as goal

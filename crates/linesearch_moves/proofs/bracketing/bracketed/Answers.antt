@@ -1,5 +1,4 @@
 -- `linesearch_moves::bracketing::bracketed` meets its contract: each return follows the calls and tests that led to it. Assumes nothing.
-use borrow.Author.Rules.{rules}
 use Rattle.linesearch_moves.specs.Bracketing.{bracketedOf}
 use lib.Ieee.{of_bits}
 use Rattle.linesearch_moves.proofs.bracketing.bracketed.Goals as goal

@@ -1,5 +1,4 @@
 -- `linesearch_moves::bracketing::decided` meets its contract: each return follows the calls and tests that led to it. Assumes nothing.
-use borrow.Author.Rules.{rules}
 use Rattle.linesearch_moves.specs.Bracketing.{decidedOf}
 use Rattle.linesearch_moves.proofs.bracketing.decided.Goals as goal
 

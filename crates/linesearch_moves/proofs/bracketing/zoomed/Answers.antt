@@ -1,5 +1,4 @@
 -- `linesearch_moves::bracketing::zoomed` meets its contract: each return follows the calls and tests that led to it. Assumes nothing.
-use borrow.Author.Rules.{rules}
 use Rattle.linesearch_moves.specs.Bracketing.{zoomedOf}
 use lib.Ieee.{of_bits}
 use Rattle.linesearch_moves.proofs.bracketing.zoomed.Goals as goal

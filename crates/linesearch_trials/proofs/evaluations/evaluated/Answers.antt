@@ -1,5 +1,4 @@
 -- `linesearch_trials::evaluations::evaluated` meets its contract: each return follows the calls and tests that led to it. Assumes nothing.
-use borrow.Author.Rules.{rules}
 use Rattle.linesearch_trials.specs.Evaluations.{evaluatedOf}
 use Rattle.linesearch_trials.proofs.evaluations.evaluated.Goals as goal
 

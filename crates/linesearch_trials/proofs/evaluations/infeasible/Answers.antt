@@ -1,5 +1,4 @@
 -- `linesearch_trials::evaluations::infeasible` meets its contract: each return follows the calls and tests that led to it. Assumes nothing.
-use borrow.Author.Rules.{rules}
 use Rattle.linesearch_trials.specs.Evaluations.{infeasibleOf}
 use lib.Ieee.{div, of_bits}
 use Rattle.linesearch_trials.proofs.evaluations.infeasible.Goals as goal

@@ -1,9 +1,7 @@
 -- `linesearch_trials::evaluations::nans` meets its contract: after i turns it has made what the definition makes of i. Assumes nothing.
-use borrow.Author.Rules.{rules}
 use mathlib.Core.Path.{refl}
-use Prim.Native.Nat.{◌-◌}
 use lib.Ieee.{div, of_bits}
-use Rattle.vector.proofs.Loops.{Made, start, filled, done}
+use Rattle.vector.proofs.Loops.{start, filled, done}
 use Rattle.linesearch_trials.specs.Evaluations.{nansOf}
 use Rattle.linesearch_trials.proofs.evaluations.nans.Goals as goal
 

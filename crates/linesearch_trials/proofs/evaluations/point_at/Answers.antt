@@ -1,5 +1,4 @@
 -- `linesearch_trials::evaluations::point_at` meets its contract: each return follows the calls and tests that led to it. Assumes nothing.
-use borrow.Author.Rules.{rules}
 use Rattle.linesearch_trials.specs.Evaluations.{pointAtOf}
 use Rattle.linesearch_trials.proofs.evaluations.point_at.Goals as goal
 

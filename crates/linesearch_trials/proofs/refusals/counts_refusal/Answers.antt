@@ -1,5 +1,4 @@
 -- `linesearch_trials::refusals::counts_refusal` meets its contract: each return follows the calls and tests that led to it. Assumes nothing.
-use borrow.Author.Rules.{rules}
 use borrow.Author.Tests.{eq-eqb, ne_eqb}
 use Rattle.linesearch_trials.specs.Start.{countsRefusalOf}
 use Rattle.linesearch_trials.proofs.refusals.counts_refusal.Goals as goal

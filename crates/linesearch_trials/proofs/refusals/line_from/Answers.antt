@@ -1,5 +1,4 @@
 -- `linesearch_trials::refusals::line_from` meets its contract: each return follows the calls and tests that led to it. Assumes nothing.
-use borrow.Author.Rules.{rules}
 use Rattle.linesearch_trials.specs.Start.{lineFromOf}
 use Rattle.linesearch_trials.proofs.refusals.line_from.Goals as goal
 

@@ -1,5 +1,4 @@
 -- `linesearch_trials::refusals::line_refusal` meets its contract: each return follows the calls and tests that led to it. Assumes nothing.
-use borrow.Author.Rules.{rules}
 use Rattle.linesearch_trials.specs.Start.{lineRefusalOf}
 use lib.Ieee.{of_bits}
 use Rattle.linesearch_trials.proofs.refusals.line_refusal.Goals as goal

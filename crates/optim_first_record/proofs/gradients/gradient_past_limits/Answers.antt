@@ -1,5 +1,4 @@
 -- `optim_first_record::gradients::gradient_past_limits` meets its contract: each return follows the calls and tests that led to it. Assumes nothing.
-use borrow.Author.Rules.{rules}
 use borrow.Author.Tests.{le-ltb, lt-ltb}
 use Rattle.optim_first_record.specs.Starts.{gradientPastLimitsOf}
 use Rattle.optim_first_record.proofs.gradients.gradient_past_limits.Goals as goal

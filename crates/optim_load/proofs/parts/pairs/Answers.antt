@@ -1,9 +1,7 @@
 -- `optim_load::parts::pairs` meets its contract: after i turns the first i pairs are set. Assumes nothing.
 use borrow.Author.Rules.{rules}
-use Prim.Native.Nat.{◌-◌}
-use mathlib.Core.Path.{◌≡◌, refl, ◌∙◌}
-use lib.ListN.{length}
-use Rattle.optim_lists.proofs.Places.{pairOf, pairs-places, Setting, set-starts, set-goes, set-ends}
+use mathlib.Core.Path.{refl, ◌∙◌}
+use Rattle.optim_lists.proofs.Places.{pairs-places, set-starts, set-goes, set-ends}
 use Rattle.optim_load.proofs.parts.pairs.Goals as goal
 
 pub loop-i-init : goal.loop-i-init

@@ -1,9 +1,8 @@
 -- `optim_load::parts::pairs` meets its contract: after i turns the first i pairs are set. Assumes nothing.
-use borrow.Author.Rules.{rules}
 use Prim.Native.Nat.{◌-◌}
-use mathlib.Core.Path.{◌≡◌, refl, ◌∙◌}
+use mathlib.Core.Path.{◌≡◌}
 use lib.ListN.{length}
-use Rattle.optim_lists.proofs.Places.{pairOf, pairs-places, Setting, set-starts, set-goes, set-ends}
+use Rattle.optim_lists.proofs.Places.{pairOf, Setting}
 use Rattle.optim_load.proofs.parts.pairs.Given as goal
 
 abbrev pub invariant-loop-i : goal.invariant-loop-i

@@ -1,5 +1,4 @@
 -- `optim_load::parts::search` meets its contract, place by place. Assumes nothing.
-use borrow.Author.Rules.{rules}
 use mathlib.Core.Path.{refl}
 use Rattle.optim_load.proofs.parts.search.Goals as goal
 

@@ -1,9 +1,7 @@
 -- `optim_load::parts::vertices` meets its contract: after i turns the first i vertices are set. Assumes nothing.
 use borrow.Author.Rules.{rules}
-use Prim.Native.Nat.{◌-◌}
-use mathlib.Core.Path.{◌≡◌, refl, ◌∙◌}
-use lib.ListN.{length}
-use Rattle.optim_lists.proofs.Places.{vertexOf, vertices-places, Setting, set-starts, set-goes, set-ends}
+use mathlib.Core.Path.{refl, ◌∙◌}
+use Rattle.optim_lists.proofs.Places.{vertices-places, set-starts, set-goes, set-ends}
 use Rattle.optim_load.proofs.parts.vertices.Goals as goal
 
 pub loop-i-init : goal.loop-i-init

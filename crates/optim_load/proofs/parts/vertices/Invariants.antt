@@ -1,9 +1,8 @@
 -- `optim_load::parts::vertices` meets its contract: after i turns the first i vertices are set. Assumes nothing.
-use borrow.Author.Rules.{rules}
 use Prim.Native.Nat.{◌-◌}
-use mathlib.Core.Path.{◌≡◌, refl, ◌∙◌}
+use mathlib.Core.Path.{◌≡◌}
 use lib.ListN.{length}
-use Rattle.optim_lists.proofs.Places.{vertexOf, vertices-places, Setting, set-starts, set-goes, set-ends}
+use Rattle.optim_lists.proofs.Places.{vertexOf, Setting}
 use Rattle.optim_load.proofs.parts.vertices.Given as goal
 
 abbrev pub invariant-loop-i : goal.invariant-loop-i

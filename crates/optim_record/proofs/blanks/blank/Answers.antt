@@ -1,5 +1,4 @@
 -- `optim_record::blanks::blank` meets its contract: each return follows the calls and tests that led to it. Assumes nothing.
-use borrow.Author.Rules.{rules}
 use Rattle.optim_record.specs.Record.{blankOf}
 use lib.Ieee.{of_bits}
 use Rattle.optim_record.proofs.blanks.blank.Goals as goal

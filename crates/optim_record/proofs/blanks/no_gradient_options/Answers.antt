@@ -1,5 +1,4 @@
 -- `optim_record::blanks::no_gradient_options` meets its contract: each return follows the calls and tests that led to it. Assumes nothing.
-use borrow.Author.Rules.{rules}
 use Rattle.optim_record.specs.Record.{noGradientOptions}
 use lib.Ieee.{of_bits}
 use Rattle.optim_record.proofs.blanks.no_gradient_options.Goals as goal

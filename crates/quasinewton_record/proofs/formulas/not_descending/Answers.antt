@@ -1,5 +1,4 @@
 -- `quasinewton_record::formulas::not_descending` meets its contract: each return follows the calls and tests that led to it. Assumes nothing.
-use borrow.Author.Rules.{rules}
 use Rattle.quasinewton_record.specs.Formulas.{notDescendingOf}
 use lib.Ieee.{of_bits}
 use Rattle.quasinewton_record.proofs.formulas.not_descending.Goals as goal

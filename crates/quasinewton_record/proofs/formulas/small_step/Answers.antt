@@ -1,5 +1,4 @@
 -- `quasinewton_record::formulas::small_step` meets its contract: each return follows the calls and tests that led to it. Assumes nothing.
-use borrow.Author.Rules.{rules}
 use Rattle.quasinewton_record.specs.Formulas.{smallStepOf}
 use lib.Ieee.{of_bits}
 use Rattle.quasinewton_record.proofs.formulas.small_step.Goals as goal

@@ -1,5 +1,4 @@
 -- `quasinewton_record::formulas::stores` meets its contract: each return follows the calls and tests that led to it. Assumes nothing.
-use borrow.Author.Rules.{rules}
 use Rattle.quasinewton_record.specs.Formulas.{storesOf}
 use Rattle.quasinewton_record.proofs.formulas.stores.Goals as goal
 

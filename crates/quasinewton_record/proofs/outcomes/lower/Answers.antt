@@ -1,5 +1,4 @@
 -- `quasinewton_record::outcomes::lower` meets its contract: each return follows the calls and tests that led to it. Assumes nothing.
-use borrow.Author.Rules.{rules}
 use Rattle.quasinewton_record.specs.Outcomes.{lowerOf}
 use Rattle.quasinewton_record.proofs.outcomes.lower.Goals as goal
 

@@ -1,5 +1,4 @@
 -- `quasinewton_record::outcomes::missed` meets its contract: each return follows the calls and tests that led to it. Assumes nothing.
-use borrow.Author.Rules.{rules}
 use Rattle.quasinewton_record.specs.Outcomes.{missedOf}
 use lib.Ieee.{of_bits}
 use Rattle.quasinewton_record.proofs.outcomes.missed.Goals as goal

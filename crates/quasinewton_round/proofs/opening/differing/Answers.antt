@@ -1,5 +1,4 @@
 -- `quasinewton_round::opening::differing` meets its contract: each return follows the calls and tests that led to it. Assumes nothing.
-use borrow.Author.Rules.{rules}
 use borrow.Author.Tests.{le-ltb, lt-ltb}
 use Rattle.quasinewton_round.specs.Opening.{differingOf}
 use Rattle.quasinewton_round.proofs.opening.differing.Goals as goal

@@ -1,5 +1,4 @@
 -- `quasinewton_round::opening::graded` meets its contract: each return follows the calls and tests that led to it. Assumes nothing.
-use borrow.Author.Rules.{rules}
 use Rattle.quasinewton_round.specs.Opening.{gradedOf}
 use Rattle.quasinewton_round.proofs.opening.graded.Goals as goal
 

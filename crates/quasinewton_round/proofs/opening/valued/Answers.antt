@@ -1,5 +1,4 @@
 -- `quasinewton_round::opening::valued` meets its contract: each return follows the calls and tests that led to it. Assumes nothing.
-use borrow.Author.Rules.{rules}
 use Rattle.quasinewton_round.specs.Opening.{valuedOf}
 use Rattle.quasinewton_round.proofs.opening.valued.Goals as goal
 

@@ -1,5 +1,4 @@
 -- `test_bare_jobs::given::scanned` is safe and ends: each turn passes a byte. Assumes nothing.
-use borrow.Author.Rules.{rules}
 use Prim.Native.Nat.{◌-◌}
 use lib.ListN.{length}
 use Rattle.test_bare_jobs.proofs.given.scanned.Given as goal

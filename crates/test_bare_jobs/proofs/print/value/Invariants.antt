@@ -1,5 +1,4 @@
 -- `test_bare_jobs::print::value` is safe and ends: each turn has one place fewer to fill. Assumes nothing.
-use borrow.Author.Rules.{rules}
 use Prim.Native.Nat.{◌≤◌}
 use mathlib.Core.Path.{◌≡◌}
 use lib.ListN.{length}

@@ -1,5 +1,4 @@
 -- `test_bare_jobs::print::values` is safe and ends: each turn passes a value. Assumes nothing.
-use borrow.Author.Rules.{rules}
 use Prim.Native.Nat.{◌-◌, ◌≤◌}
 use Rattle.test_bare_jobs.proofs.print.values.Given as goal
 
