@@ -6,7 +6,9 @@ ghost use Rattle.std.specs.Prelude.{◌≡◌, ◌≤◌, length};
 ghost use Rattle.bench_rosenbrock.specs.Most.{outsideOf, mostOf};
 
 use optim::{Answered, Record};
-use protocol::{Allowance, Allowances, GradientOptions, Kind, Said, SimplexOptions, WolfeOptions};
+use protocol::{
+    Allowance, Allowances, BFGS, GradientOptions, Kind, SIMPLEX, Said, SimplexOptions, WolfeOptions,
+};
 
 // The sum of 100 (x[i] - x[i-1]²)² + (1 - x[i-1])² over the chain.
 fn value(x: [f64; 16], n: usize) -> f64
@@ -92,7 +94,7 @@ fn started(job: u64, n: usize, gradients: bool) -> Answered
 {
     let all = unlimited();
     let x = begin(n);
-    if job == 1 {
+    if job == SIMPLEX {
         let o = SimplexOptions {
             xtol: 1e-8,
             ftol: 1e-8,
@@ -116,7 +118,7 @@ fn started(job: u64, n: usize, gradients: bool) -> Answered
         memory: 10,
         gradients,
     };
-    if job == 2 {
+    if job == BFGS {
         return optim::bfgs(&x[..n], o, all);
     }
     optim::lbfgs(&x[..n], o, all)
@@ -186,9 +188,9 @@ fn count_of(n: usize, slope: bool) -> usize
 // The letter of an answer's kind.
 fn letter(slope: bool) -> u8 {
     if slope {
-        return b'G';
+        return protocol::GRADIENT;
     }
-    b'V'
+    protocol::VALUE
 }
 
 // The reply to the answer to an open question. It alone calls `answer`, so that the compiler may put it in line.

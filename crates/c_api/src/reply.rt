@@ -1,6 +1,6 @@
 // What a call says, as numbers: an enum does not cross to C.
 ghost use Rattle.std.specs.Prelude.{◌≡◌, []};
-ghost use Rattle.protocol.specs.Protocol.{letter, replyOf};
+ghost use Rattle.protocol.specs.Protocol.{replyOf};
 ghost use Rattle.c_api.specs.Reply.{reasonOf, replyAs};
 
 use protocol::{Kind, Said, Termination};
@@ -24,16 +24,6 @@ pub struct Reply {
     pub kind: u8,
     pub converged: bool,
     pub success: bool,
-}
-
-// A kind's letter.
-fn byte(k: Kind) -> u8
-    ensures { result ≡ letter k }
-{
-    match k {
-        Kind::Value => b'V',
-        Kind::Gradient => b'G',
-    }
 }
 
 // A reason's place among the nine, from 1.
@@ -77,7 +67,7 @@ pub fn hand(s: Said) -> Reply
         Said::Ask(number, k) => {
             r.what = 1;
             r.number = number;
-            r.kind = byte(k);
+            r.kind = protocol::letter(k);
         }
         Said::Fitted(fit) => {
             let reason = fit.reason;

@@ -12,9 +12,9 @@ use Rattle.vector.specs.Points.{fromSliceOf, allFiniteOf}
 use Rattle.protocol.specs.declared.Allowances.{Allowances}
 use Rattle.protocol.specs.declared.GradientOptions.{GradientOptions}
 use Rattle.protocol.specs.declared.SimplexOptions.{SimplexOptions}
-use Rattle.protocol.specs.Protocol.{Reply, ask, ended, refused}
+use Rattle.protocol.specs.Protocol.{Reply, ask, ended, refused, simplexMark, bfgsMark, searchMark}
 use Rattle.optim_record.specs.declared.Record.{Record}
-use Rattle.optim_record.specs.Record.{simplexMark, bfgsMark, searchMark, gradientJobOf, validOf}
+use Rattle.optim_record.specs.Record.{gradientJobOf, validOf}
 use Rattle.optim_reply.specs.Standing.{standingOf, overOf, gradientDueOf}
 use Rattle.optim_reply.proofs.Says.{stands-keeps}
 use Rattle.optim_first_record.specs.Starts.{simplexRefusalOf, simplexRecordOf, gradientRefusalOf, gradientRecordOf}

@@ -1,9 +1,9 @@
 -- The state of the fit program between two lines, and what several lines share. Definitions only.
 use Rattle.std.specs.Prelude.{ℕ, ◌+◌, ◌≡◌, true, false, cond, List, [], ◌∷◌, length, eqb, ltb, Float}
 use Rattle.protocol.specs.declared.Allowance.{Allowance}
-use Rattle.protocol.specs.Protocol.{Reply}
+use Rattle.protocol.specs.Protocol.{Reply, simplexMark, bfgsMark}
 use Rattle.optim_record.specs.declared.Record.{Record}
-use Rattle.optim_record.specs.Record.{blankOf, noOptions, wolfeOptionsOf, noGradientOptions, simplexMark, bfgsMark}
+use Rattle.optim_record.specs.Record.{blankOf, noOptions, wolfeOptionsOf, noGradientOptions}
 use Rattle.optim_start.specs.Start.{simplexOf, bfgsOf, lbfgsOf}
 use Rattle.lines_field.specs.Shapes.{most}
 use Rattle.lines_reader.specs.declared.Reader.{Reader}

@@ -9,8 +9,7 @@ ghost use Rattle.fit_state.specs.States.{Turned, begunOf, followingOf, keptOf, b
 use lines_options::Reader;
 use lines_reader::{GRADIENT_LINE2, LINE1, SIMPLEX_LINE2, STOPPED};
 use optim::{Answered, Record};
-use optim_record::{BFGS, SIMPLEX};
-use protocol::{Allowance, Allowances, GradientOptions, SimplexOptions};
+use protocol::{Allowance, Allowances, BFGS, GradientOptions, SIMPLEX, SimplexOptions};
 
 // The state between two lines. `due` is the form of the line that is due; at a number that is no form's, STOPPED
 // as the program sets it, it has stopped. `number` is that line's number. The job's mark, n, the options (those

@@ -1,6 +1,6 @@
 -- What the program prints, part by part and step by step, is what 01 says of its lines. Statements only.
 use Rattle.std.specs.Prelude.{ℕ, ◌≤◌, ◌≡◌, true, List, [], ◌++◌}
-use Rattle.optim_record.specs.Record.{simplexMark, lbfgsMark}
+use Rattle.protocol.specs.Protocol.{simplexMark, lbfgsMark}
 use Rattle.lines_reader.specs.declared.Reader.{Reader}
 use Rattle.lines_reader.specs.Forms.{lineOf, stopped, line1}
 use Rattle.lines_forms.specs.Lines.{firstLineOf}

@@ -13,6 +13,20 @@ pub by-cond : {A : Type 0} (P : A → Type 0) (b : Bool) (m n : A) → (b ≡ tr
 by-cond P true m n h k = h refl
 by-cond P false m n h k = k refl
 
+-- what holds of both arms holds of what a test chooses
+pub either : {A : Type 0} (P : A → Type 0) (b : Bool) (x y : A) → P x → P y → P (cond b x y)
+either P true x y p q = p
+either P false x y p q = q
+
+pub and-false : (b : Bool) → (b && false) ≡ false
+and-false true = refl
+and-false false = refl
+
+-- the code's `if !a { return false; } b`
+pub not-cond : (a b : Bool) → not (cond (not a) false b) ≡ not (a && b)
+not-cond true b = refl
+not-cond false b = refl
+
 pub false-T : (b : Bool) → b ≡ false → T (not b)
 false-T true e = absurd (true≢false e)
 false-T false e = tt

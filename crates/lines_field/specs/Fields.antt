@@ -1,5 +1,7 @@
 -- What each function of a field makes, for every struct that it is given. Definitions only.
 use Rattle.std.specs.Prelude.{ℕ, ◌+◌, ◌*◌, Bool, true, false, cond, eqb, leb, ltb}
+use Rattle.protocol.specs.declared.Kind.TheVariants.{Value, Gradient}
+use Rattle.protocol.specs.Protocol.{letter as kindLetter, simplexMark, bfgsMark, lbfgsMark}
 use Rattle.lines_field.specs.declared.Sum.{Sum}
 use Rattle.lines_field.specs.declared.Field.{Field}
 use Rattle.lines_field.specs.declared.Reading.{Reading}
@@ -51,10 +53,10 @@ unfoldable pub flagOf : Field → Reading
 flagOf f = cond (spellsOf f 1 48) (formed 0) (cond (spellsOf f 1 49) (formed 1) malformed)
 
 unfoldable pub letterOf : Field → Reading
-letterOf f = cond (spellsOf f 1 86) (formed 86) (cond (spellsOf f 1 71) (formed 71) malformed)
+letterOf f = cond (spellsOf f 1 (kindLetter Value)) (formed (kindLetter Value)) (cond (spellsOf f 1 (kindLetter Gradient)) (formed (kindLetter Gradient)) malformed)
 
 unfoldable pub jobOf : Field → Reading
-jobOf f = cond (spellsOf f 7 0x73696d706c6578) (formed 1) (cond (spellsOf f 4 0x62666773) (formed 2) (cond (spellsOf f 5 0x6c62666773) (formed 3) malformed))
+jobOf f = cond (spellsOf f 7 0x73696d706c6578) (formed simplexMark) (cond (spellsOf f 4 0x62666773) (formed bfgsMark) (cond (spellsOf f 5 0x6c62666773) (formed lbfgsMark) malformed))
 
 unfoldable pub judgedOf : ℕ → Field → Reading
 judgedOf k f =

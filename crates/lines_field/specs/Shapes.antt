@@ -1,5 +1,7 @@
 -- What a field may be, over its bytes: one of six shapes. Definitions only.
 use Rattle.std.specs.Prelude.{ℕ, ◌+◌, ◌-◌, ◌*◌, Bool, true, false, ◌&&◌, cond, List, [], ◌∷◌, length, eqb, leb, ltb}
+use Rattle.protocol.specs.declared.Kind.TheVariants.{Value, Gradient}
+use Rattle.protocol.specs.Protocol.{letter as kindLetter, simplexMark, bfgsMark, lbfgsMark}
 use Rattle.lines_field.specs.declared.Reading.{Reading}
 
 -- the largest u64
@@ -65,14 +67,14 @@ flagField f = cond (same f (48 ∷ [])) (formed 0) (cond (same f (49 ∷ [])) (f
 
 -- "a kind (V for a value, G for a gradient)"
 unfoldable pub letterField : List ℕ → Reading
-letterField f = cond (same f (86 ∷ [])) (formed 86) (cond (same f (71 ∷ [])) (formed 71) malformed)
+letterField f = cond (same f (kindLetter Value ∷ [])) (formed (kindLetter Value)) (cond (same f (kindLetter Gradient ∷ [])) (formed (kindLetter Gradient)) malformed)
 
--- "`simplex`, `bfgs` or `lbfgs`": the job marks 1, 2 and 3
+-- "`simplex`, `bfgs` or `lbfgs`": the marks of these jobs
 unfoldable pub jobField : List ℕ → Reading
 jobField f =
-    cond (same f (115 ∷ 105 ∷ 109 ∷ 112 ∷ 108 ∷ 101 ∷ 120 ∷ [])) (formed 1)
-    (cond (same f (98 ∷ 102 ∷ 103 ∷ 115 ∷ [])) (formed 2)
-    (cond (same f (108 ∷ 98 ∷ 102 ∷ 103 ∷ 115 ∷ [])) (formed 3)
+    cond (same f (115 ∷ 105 ∷ 109 ∷ 112 ∷ 108 ∷ 101 ∷ 120 ∷ [])) (formed simplexMark)
+    (cond (same f (98 ∷ 102 ∷ 103 ∷ 115 ∷ [])) (formed bfgsMark)
+    (cond (same f (108 ∷ 98 ∷ 102 ∷ 103 ∷ 115 ∷ [])) (formed lbfgsMark)
     malformed))
 
 -- the shapes, by number

@@ -5,6 +5,8 @@ ghost use Rattle.std.specs.Prelude.{◌≡◌, ◌<◌};
 ghost use Rattle.lines_field.specs.Shapes.{digitOf, malformed, formed};
 ghost use Rattle.lines_field.specs.Fields.{lostOf, growOf, blankFieldOf, lengthenedOf, addedOf, spellsOf, wordOf, decimalOf, maybeOf, flagOf, letterOf, jobOf, judgedOf};
 
+use protocol::{BFGS, GRADIENT, LBFGS, SIMPLEX, VALUE};
+
 // A number that is read digit by digit, and whether each was a digit of its base and the number fits.
 #[derive(Clone, Copy)]
 pub struct Sum {
@@ -206,11 +208,11 @@ fn flag(f: Field) -> Reading
 fn letter(f: Field) -> Reading
     ensures { result ≡ letterOf f }
 {
-    if spells(f, 1, 86) {
-        return fit(86);
+    if spells(f, 1, VALUE as u64) {
+        return fit(VALUE as u64);
     }
-    if spells(f, 1, 71) {
-        return fit(71);
+    if spells(f, 1, GRADIENT as u64) {
+        return fit(GRADIENT as u64);
     }
     unfit()
 }
@@ -219,13 +221,13 @@ fn job(f: Field) -> Reading
     ensures { result ≡ jobOf f }
 {
     if spells(f, 7, 0x73_696d_706c_6578) {
-        return fit(1);
+        return fit(SIMPLEX);
     }
     if spells(f, 4, 0x6266_6773) {
-        return fit(2);
+        return fit(BFGS);
     }
     if spells(f, 5, 0x6c_6266_6773) {
-        return fit(3);
+        return fit(LBFGS);
     }
     unfit()
 }

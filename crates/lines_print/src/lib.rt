@@ -5,22 +5,12 @@
 mod reasons;
 
 ghost use Rattle.std.specs.Prelude.{◌≡◌, ◌≤◌, length};
-ghost use Rattle.protocol.specs.Protocol.{letter};
 ghost use Rattle.lines_buffer.specs.Texts.{filled};
 ghost use Rattle.lines_print.specs.Print.{limitedOf, questionOf, resultOf, askText, endText, noText, badText};
 
 use lines_buffer::{put_byte, put_count, put_decimal, put_text, put_value, put_values};
 use protocol::{Kind, Summary};
 use reasons::{put_flag, put_reason};
-
-fn kind_letter(k: Kind) -> u8
-    ensures { result ≡ letter k }
-{
-    match k {
-        Kind::Value => b'V',
-        Kind::Gradient => b'G',
-    }
-}
 
 // A count of coordinates, sixteen for any above.
 fn limited(n: usize) -> usize
@@ -56,7 +46,7 @@ pub fn put_ask(out: &mut [u8; 512], number: u64, kind: Kind, x: [f64; 16], n: us
     ensures { (result ≡ length (askText (questionOf number kind x n))) × (out.new ≡ filled out.old (askText (questionOf number kind x n))) }
 {
     let m = limited(n);
-    let k = kind_letter(kind);
+    let k = protocol::letter(kind);
     let a = put_text(out, 0, b"ask ");
     let b = put_decimal(out, a, number);
     let d = put_byte(out, b, b' ');

@@ -8,14 +8,10 @@ use native.Mathlib.Nat.{mul-le-mul_left, mul-le-mul_right, pow-zero, pow-succ', 
 use lib.ListN.{length}
 use lib.Dec.{leb, ltb}
 use borrow.Author.Tests.{ltb-true, leb-false, leb-true, le-leb, lt-leb}
-use Rattle.float.proofs.Tests.{by}
+use Rattle.float.proofs.Tests.{by, and-false}
 use Rattle.lines_field.specs.declared.Sum.{Sum}
 use Rattle.lines_field.specs.Shapes.{most, below, spelt}
 use Rattle.lines_field.specs.Fields.{lostOf, growOf}
-
-pub and-false : (b : Bool) → (b && false) ≡ false
-and-false true = refl
-and-false false = refl
 
 pub never : {P : Type 0} (b : Bool) → b ≡ true → b ≡ false → P
 never b t f = absurd (true≢false (sym t ∙ f))

@@ -1,4 +1,4 @@
--- The engine that runs simplex fits alone satisfies the mission's 3 (`claim`), and puts no more questions than 01 allows (`at-most`). Assumes nothing.
+-- The engine that runs simplex fits alone satisfies the mission's 3 (`claim`). Assumes nothing.
 use Rattle.protocol.specs.RoundsLaws.{RoundsLaws}
 use Rattle.protocol.specs.Fits.{fits}
 use Rattle.protocol.proofs.FitsLaws.{fits-laws}
@@ -23,6 +23,3 @@ gradientless-laws =
 
 pub claim : SimplexClaim
 claim = claim-of-rounds (fits nelderMead gradientless) (fits-laws nelderMead gradientless laws gradientless-laws)
-
-pub at-most : SimplexCounts gradientless
-at-most = counts gradientless

@@ -16,10 +16,10 @@ use Rattle.quasinewton_record.specs.declared.Fixed.{Fixed}
 use Rattle.quasinewton.specs.Step.{asksOf, storesPairOf, updatedOf, modelAfterOf, onwardOf}
 use Rattle.quasinewton.proofs.Parts.{settled-parts}
 use Rattle.neldermead.specs.declared.Simplex.{Simplex}
-use Rattle.protocol.specs.Protocol.{Reply}
+use Rattle.protocol.specs.Protocol.{Reply, simplexMark, searchMark}
 use Rattle.optim_record.specs.declared.Counts.{Counts}
 use Rattle.optim_record.specs.declared.Record.{Record}
-use Rattle.optim_record.specs.Record.{simplexMark, searchMark, gradientFixedOf, gradientJobOf, validOf, Ranges, Open, Stands}
+use Rattle.optim_record.specs.Record.{gradientFixedOf, gradientJobOf, validOf, Ranges, Open, Stands}
 use Rattle.optim_reply.specs.Standing.{refusedOf, overOf, gradientDueOf, standingOf}
 use Rattle.optim_rules.specs.Rules.{repeatsOf, suitsOf, meetsOf, acceptsOf}
 use Rattle.optim_rules.specs.Moves.{countedOf, simplexToldOf, searchToldOf, descentToldOf, Worded}

@@ -7,7 +7,8 @@ use lib.Dec.{eqb}
 use lib.Ieee.{Float}
 use Rattle.objective.proofs.Follows.{told-within}
 use Rattle.optim_record.specs.declared.Record.{Record}
-use Rattle.optim_record.specs.Record.{simplexMark, searchMark, gradientJobOf, Other, Ranges, Open, Stands}
+use Rattle.optim_record.specs.Record.{gradientJobOf, Other, Ranges, Open, Stands}
+use Rattle.protocol.specs.Protocol.{simplexMark, searchMark}
 use Rattle.optim.specs.Answer.{steppedOf, gradedOf}
 
 -- where a record has another's job and n, it is of differences where the other is

@@ -2,7 +2,7 @@
 use Rattle.std.specs.Prelude.{ℕ, ◌+◌, cond, not, List, eqb, length, get_or, Float}
 use Rattle.std.specs.Float.{nan}
 use Rattle.vector.specs.Points.{fromSliceOf}
-use Rattle.protocol.specs.Protocol.{Reply, readOf}
+use Rattle.protocol.specs.Protocol.{Reply, readOf, simplexMark, searchMark}
 use Rattle.objective.specs.declared.Differences.{Differences}
 use Rattle.objective.specs.Step.{toldOf}
 use Rattle.linesearch.specs.Step as linesearch
@@ -12,7 +12,7 @@ use Rattle.quasinewton.specs.Step as quasinewton
 use Rattle.neldermead.specs.declared.Simplex.{Simplex}
 use Rattle.neldermead.specs.Step.{toldOf as simplexTold}
 use Rattle.optim_record.specs.declared.Record.{Record}
-use Rattle.optim_record.specs.Record.{simplexMark, searchMark, fixedOf, searchFixedOf, gradientFixedOf, gradientJobOf, validOf}
+use Rattle.optim_record.specs.Record.{fixedOf, searchFixedOf, gradientFixedOf, gradientJobOf, validOf}
 use Rattle.optim_reply.specs.Standing.{refusedOf, overOf, gradientDueOf, standingOf}
 use Rattle.optim_rules.specs.Rules.{repeatsOf, suitsOf}
 

@@ -9,7 +9,7 @@ ghost use Rattle.optim.specs.Answer.{answerOf};
 ghost use Rattle.optim.specs.Parts.{Speaks, repliedOf};
 
 pub use optim_record::{Answered, Record, blank, valid};
-use optim_record::{SEARCH, SIMPLEX};
+use protocol::{SEARCH, SIMPLEX};
 use optim_reply::Spoken;
 pub use optim_start::{bfgs, differences, lbfgs, search, simplex};
 

@@ -10,7 +10,7 @@ use Rattle.protocol.specs.declared.SimplexOptions.{SimplexOptions}
 use Rattle.protocol.specs.declared.WolfeOptions.{WolfeOptions}
 use Rattle.protocol.specs.declared.GradientOptions.{GradientOptions}
 use Rattle.protocol.specs.declared.Refusal.{Refusal}
-use Rattle.protocol.specs.Protocol.{refusal, noRefusal}
+use Rattle.protocol.specs.Protocol.{refusal, noRefusal, simplexMark, bfgsMark, lbfgsMark, searchMark, differencesMark}
 use Rattle.objective.specs.Step.{begunOf}
 use Rattle.linesearch_trials.specs.declared.Line.{Line}
 use Rattle.linesearch_trials.specs.Start.{optionsRefusalOf, countsRefusalOf}
@@ -22,7 +22,7 @@ use Rattle.quasinewton.specs.Step.{searching, idleOf as idleDescent, startOf as 
 use Rattle.neldermead.specs.Step.{startOf}
 use Rattle.optim_record.specs.declared.Limits.{Limits}
 use Rattle.optim_record.specs.declared.Record.{Record}
-use Rattle.optim_record.specs.Record.{idleOf, noOptions, wolfeOptionsOf, noGradientOptions, simplexMark, bfgsMark, lbfgsMark, searchMark, differencesMark, mostAllowed, mostRestarts, mostEvals, noLimit}
+use Rattle.optim_record.specs.Record.{idleOf, noOptions, wolfeOptionsOf, noGradientOptions, mostAllowed, mostRestarts, mostEvals, noLimit}
 
 -- ---- differences
 

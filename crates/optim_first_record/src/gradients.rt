@@ -2,8 +2,8 @@
 ghost use Rattle.std.specs.Prelude.{◌≡◌, ◌≤◌};
 ghost use Rattle.optim_first_record.specs.Starts.{gradientPastLimitsOf, orderedOf, noMemoryOf, gradientRefusalOf, gradientLimitsOf, keptOptionsOf, gradientMarkOf, gradientRecordOf};
 
-use optim_record::{BFGS, Counts, LBFGS, Limits, MOST_EVALS, NO_LIMIT, Record};
-use protocol::{Allowances, GradientOptions, Refusal, WolfeOptions};
+use optim_record::{Counts, Limits, MOST_EVALS, NO_LIMIT, Record};
+use protocol::{Allowances, BFGS, GradientOptions, LBFGS, Refusal, WolfeOptions};
 
 // Refusal 2 of a gradient fit; bfgs ignores memory.
 fn gradient_past_limits(count: usize, o: GradientOptions, a: Allowances, limited: bool) -> bool

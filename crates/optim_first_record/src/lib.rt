@@ -9,10 +9,10 @@ ghost use Rattle.optim_first_record.specs.Starts.{begunRecordOf, excessOf, pastL
 
 pub use gradients::{gradient_record, gradient_refusal};
 use linesearch::Line;
-use optim_record::{
-    Counts, DIFFERENCES, Limits, MOST_ALLOWED, MOST_EVALS, MOST_RESTARTS, Record, SEARCH, SIMPLEX,
+use optim_record::{Counts, Limits, MOST_ALLOWED, MOST_EVALS, MOST_RESTARTS, Record};
+use protocol::{
+    Allowance, Allowances, DIFFERENCES, Refusal, SEARCH, SIMPLEX, SimplexOptions, WolfeOptions,
 };
-use protocol::{Allowance, Allowances, Refusal, SimplexOptions, WolfeOptions};
 use quasinewton::Descent;
 use quasinewton_record::SEARCHING;
 

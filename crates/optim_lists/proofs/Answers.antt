@@ -8,6 +8,7 @@ use lib.Dec.{eqb}
 use lib.ListN.{length}
 use lib.Ieee.{Float}
 use borrow.Author.Tests.{eqb-true, eq-eqb}
+use Rattle.float.proofs.Tests.{either}
 use Rattle.protocol.specs.Protocol.{Reply, refused}
 use Rattle.optim_record.specs.declared.Record.{Record}
 use Rattle.optim_reply.specs.Standing.{standingOf}
@@ -24,10 +25,6 @@ use Rattle.optim_lists.specs.Laws.{ListsAnswer}
 use Rattle.optim_lists.proofs.Laws.{record-back, formed}
 
 -- ---- the record after an answer
-
-either : (P : Reply × Record → Type 0) (b : Bool) (x y : Reply × Record) → P x → P y → P (cond b x y)
-either P true x y p q = p
-either P false x y p q = q
 
 replied-keeps : (r : Record) (why : ℕ) → (repliedOf r why).1 ≡ r
 unfolding repliedOf

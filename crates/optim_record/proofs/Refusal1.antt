@@ -8,7 +8,8 @@ use mathlib.Core.List.{[], ◌∷◌}
 use lib.Dec.{eqb, leb}
 use borrow.Author.Tests.{leb-true, eqb-true, le-leb, eq-eqb, ne_eqb}
 use Rattle.optim_record.specs.declared.Record.{Record}
-use Rattle.optim_record.specs.Record.{simplexMark, bfgsMark, lbfgsMark, searchMark, differencesMark, gradientJobOf, validSimplexOf, validSearchOf, validDescentOf, validOf}
+use Rattle.optim_record.specs.Record.{gradientJobOf, validSimplexOf, validSearchOf, validDescentOf, validOf}
+use Rattle.protocol.specs.Protocol.{simplexMark, bfgsMark, lbfgsMark, searchMark, differencesMark}
 use Rattle.optim_record.specs.Refusal1.{Descends, Searches, OneOf, InRange, RefusesExactly}
 use Rattle.optim_record.proofs.Refusal1Parts.{SimplexPart, SearchPart, BarePart, DescentPart, Common, by-job, simplex-part, bare-part, descent-part, whole}
 

@@ -9,7 +9,8 @@ use lib.Dec.{eqb, ltb, leb}
 use borrow.Author.Tests.{ltb-false, leb-true, eqb-true, eqb-false, not-true, not-false, le-ltb, le-leb, eq-eqb, ne_eqb}
 use Rattle.quasinewton_record.specs.declared.Descent.{Descent}
 use Rattle.optim_record.specs.declared.Record.{Record}
-use Rattle.optim_record.specs.Record.{simplexMark, bfgsMark, lbfgsMark, searchMark, differencesMark, noLimit, gradientJobOf, validSimplexOf, validSearchPartOf, validSearchOf, knownRefusalOf, validEndingOf, validOptionsOf, validModelOf, validDescentOf, validOf}
+use Rattle.optim_record.specs.Record.{noLimit, gradientJobOf, validSimplexOf, validSearchPartOf, validSearchOf, knownRefusalOf, validEndingOf, validOptionsOf, validModelOf, validDescentOf, validOf}
+use Rattle.protocol.specs.Protocol.{simplexMark, bfgsMark, lbfgsMark, searchMark, differencesMark}
 use Rattle.optim_record.specs.Refusal1.{Descends, OneOf, EndingMark}
 
 -- ---- tests, each with what it means

@@ -4,7 +4,7 @@ use Rattle.float.specs.Binary64.{plusZero}
 use Rattle.protocol.specs.declared.SimplexOptions.{SimplexOptions}
 use Rattle.protocol.specs.declared.WolfeOptions.{WolfeOptions}
 use Rattle.protocol.specs.declared.GradientOptions.{GradientOptions}
-use Rattle.protocol.specs.Protocol.{Reply, replyOf}
+use Rattle.protocol.specs.Protocol.{Reply, replyOf, simplexMark, bfgsMark, lbfgsMark, searchMark, differencesMark}
 use Rattle.objective.specs.Step.{begunOf}
 use Rattle.linesearch_trials.specs.declared.Fixed as linesearchFixed
 use Rattle.linesearch.specs.Step.{failed}
@@ -58,22 +58,6 @@ blankOf =
       descent = idleDescent;
       model = blankModel;
     }
-
--- the marks of the jobs
-abbrev pub simplexMark : ℕ
-simplexMark = 1
-
-abbrev pub bfgsMark : ℕ
-bfgsMark = 2
-
-abbrev pub lbfgsMark : ℕ
-lbfgsMark = 3
-
-abbrev pub searchMark : ℕ
-searchMark = 4
-
-abbrev pub differencesMark : ℕ
-differencesMark = 5
 
 -- "any count above 4·10^10"
 abbrev pub most : ℕ

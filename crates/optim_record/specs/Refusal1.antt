@@ -2,7 +2,8 @@
 -- max_evals, an option past 2's limits, an unknown mark or any count above 4·10^10." Of a record the parts that its job uses count. Definitions and statements only.
 use Rattle.std.specs.Prelude.{ℕ, ◌≤◌, ◌<◌, ◌≡◌, true, false, ◌⊎◌, ◌↔◌, List, [], ◌∷◌}
 use Rattle.optim_record.specs.declared.Record.{Record}
-use Rattle.optim_record.specs.Record.{simplexMark, bfgsMark, lbfgsMark, searchMark, differencesMark, validOf}
+use Rattle.optim_record.specs.Record.{validOf}
+use Rattle.protocol.specs.Protocol.{simplexMark, bfgsMark, lbfgsMark, searchMark, differencesMark}
 
 -- ---- the parts that a job uses
 

@@ -10,21 +10,11 @@ pub use blanks::{blank, idle, no_gradient_options, no_options, wolfe_options};
 use linesearch_moves::FAILED;
 use neldermead::{NOT_FINITE, Simplex};
 use objective::Differences;
-use protocol::{GradientOptions, Said, SimplexOptions};
+use protocol::{BFGS, DIFFERENCES, GradientOptions, LBFGS, SEARCH, SIMPLEX, Said, SimplexOptions};
 use quasinewton::Descent;
 use quasinewton_model::Model;
 use quasinewton_record::{BY_REFUSAL, SEARCHING};
 
-// The marks of the jobs.
-pub const SIMPLEX: u64 = 1;
-
-pub const BFGS: u64 = 2;
-
-pub const LBFGS: u64 = 3;
-
-pub const SEARCH: u64 = 4;
-
-pub const DIFFERENCES: u64 = 5;
 // Any count above this is out of range.
 const MOST: u64 = 40_000_000_000;
 // Allowances, restarts and max_evals above these are past the limits; an absent max_fevals of a gradient

@@ -3,13 +3,13 @@ use Prim.Native.Nat.{ℕ}
 use mathlib.Core.Path.{◌≡◌, refl, sym, ap, ◌∙◌}
 use mathlib.Core.Bool.{Bool, true, false, cond}
 use lib.Dec.{eqb, ltb, leb}
-use Rattle.protocol.specs.Protocol.{Reply, replyOf}
+use Rattle.protocol.specs.Protocol.{Reply, replyOf, simplexMark, searchMark}
 use Rattle.linesearch.specs.Step as linesearch
 use Rattle.quasinewton.specs.Step as quasinewton
 use Rattle.neldermead.specs.Step.{notFinite}
 use Rattle.optim_record.specs.declared.Record.{Record}
 use Rattle.optim_record.specs.declared.Answered.{Answered}
-use Rattle.optim_record.specs.Record.{outcomeOf, simplexMark, searchMark, lastAsking, searchFixedOf, gradientFixedOf, gradientJobOf}
+use Rattle.optim_record.specs.Record.{outcomeOf, lastAsking, searchFixedOf, gradientFixedOf, gradientJobOf}
 use Rattle.optim_reply.specs.declared.Spoken.{Spoken}
 use Rattle.optim_reply.specs.Standing.{resultOf, standingSimplexOf, searchResultOf, standingSearchOf, descentResultOf, standingDescentOf, standingDifferencesOf, standingOf}
 use Rattle.optim_reply.specs.Spoken.{replyWith, simplexSpokenOf, searchSpokenOf, descentSpokenOf, differencesSpokenOf, spokenOf, spokenFrom, spokenBy, spokenIn}

@@ -5,7 +5,7 @@ use Rattle.float.specs.Binary64.{plusZero}
 use Rattle.protocol.specs.declared.Kind.{Kind}
 use Rattle.protocol.specs.declared.Kind.TheVariants.{Value, Gradient}
 use Rattle.protocol.specs.declared.Said.TheVariants.{Ask, Fitted, Searched, Differenced, Refused}
-use Rattle.protocol.specs.Protocol.{Reply, ask, ended, refused, replyOf}
+use Rattle.protocol.specs.Protocol.{Reply, ask, ended, refused, replyOf, simplexMark, searchMark}
 use Rattle.objective.specs.declared.Differences.{Differences}
 use Rattle.objective.specs.Step.{probeOf}
 use Rattle.linesearch_trials.specs.declared.Fixed as linesearchFixed
@@ -20,7 +20,7 @@ use Rattle.neldermead.specs.Step.{byTolerance, notFinite}
 use Rattle.optim_record.specs.declared.Counts.{Counts}
 use Rattle.optim_record.specs.declared.Record.{Record}
 use Rattle.optim_record.specs.declared.Answered.{Answered}
-use Rattle.optim_record.specs.Record.{simplexMark, searchMark, lastAsking, searchFixedOf, gradientFixedOf, gradientJobOf}
+use Rattle.optim_record.specs.Record.{lastAsking, searchFixedOf, gradientFixedOf, gradientJobOf}
 use Rattle.optim_reply.specs.declared.Spoken.{Spoken}
 use Rattle.optim_reply.specs.Standing.{terminationOf, descentTerminationOf, descentConvergedOf}
 

@@ -5,13 +5,13 @@ use Rattle.protocol.specs.declared.Kind.{Kind}
 use Rattle.protocol.specs.declared.Kind.TheVariants.{Value, Gradient}
 use Rattle.protocol.specs.declared.Termination.{Termination}
 use Rattle.protocol.specs.declared.Termination.TheVariants.{GradientTolerance, SimplexTolerance, StepTolerance, FunctionTolerance, MaxIterations, MaxFevals, LineSearchFailed, GradientFailed, ObjectiveResolution}
-use Rattle.protocol.specs.Protocol.{Result, SearchResult, fitted, searched, differenced, Reply, ask, ended, refused}
+use Rattle.protocol.specs.Protocol.{Result, SearchResult, fitted, searched, differenced, Reply, ask, ended, refused, simplexMark, searchMark}
 use Rattle.objective.specs.Step.{probeOf}
 use Rattle.linesearch.specs.Step as linesearch
 use Rattle.quasinewton.specs.Step as quasinewton
 use Rattle.neldermead.specs.Step.{byTolerance, byResolution, bySimplexIterations, notFinite}
 use Rattle.optim_record.specs.declared.Record.{Record}
-use Rattle.optim_record.specs.Record.{simplexMark, searchMark, lastAsking, searchFixedOf, gradientFixedOf, gradientJobOf}
+use Rattle.optim_record.specs.Record.{lastAsking, searchFixedOf, gradientFixedOf, gradientJobOf}
 
 -- the mission's 1: "a refused or repeated answer leaves the record bit for bit unchanged"
 abbrev pub refusedOf : Record → ℕ → ℕ → Reply × Record

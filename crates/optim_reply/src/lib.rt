@@ -13,8 +13,8 @@ use neldermead::{
 };
 use neldermead_vertices::Vertex;
 use objective::Differences;
-use optim_record::{Answered, Counts, Record, SEARCH, SIMPLEX};
-use protocol::{Found, Kind, Said, Summary, Termination};
+use optim_record::{Answered, Counts, Record};
+use protocol::{Found, Kind, SEARCH, SIMPLEX, Said, Summary, Termination};
 use quasinewton::Descent;
 use quasinewton_record::{
     BY_FEVALS, BY_FUNCTION, BY_GRADIENT, BY_ITERATIONS, BY_REFUSAL, BY_SEARCH, BY_STEP,

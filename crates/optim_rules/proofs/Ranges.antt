@@ -11,7 +11,8 @@ use lib.Ieee.{Float}
 use borrow.Author.Tests.{eqb-true, eqb-false, ne_eqb}
 use Rattle.quasinewton_model.specs.Step.{ModelInRange}
 use Rattle.optim_record.specs.declared.Record.{Record}
-use Rattle.optim_record.specs.Record.{simplexMark, bfgsMark, lbfgsMark, searchMark, differencesMark, gradientJobOf, validOf, Other, Ranges, Open, Stands}
+use Rattle.optim_record.specs.Record.{gradientJobOf, validOf, Other, Ranges, Open, Stands}
+use Rattle.protocol.specs.Protocol.{simplexMark, bfgsMark, lbfgsMark, searchMark, differencesMark}
 use Rattle.optim_record.specs.Refusal1.{OneOf, InRange}
 use Rattle.optim_record.proofs.Refusal1.{in-range}
 use Rattle.optim_reply.specs.Standing.{overOf, gradientDueOf}

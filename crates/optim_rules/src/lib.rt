@@ -2,12 +2,14 @@
 #![tactic(auto)]
 
 ghost use Rattle.std.specs.Prelude.{◌≡◌, ◌≤◌, ◌<◌, length};
-ghost use Rattle.optim_record.specs.Record.{simplexMark, Ranges};
+ghost use Rattle.optim_record.specs.Record.{Ranges};
+ghost use Rattle.protocol.specs.Protocol.{simplexMark};
 ghost use Rattle.optim_rules.specs.Rules.{repeatsOf, suitsOf, meetsOf, acceptsOf};
 ghost use Rattle.optim_rules.specs.Moves.{Worded, countedOf, simplexToldOf, searchToldOf, descentToldOf};
 
 use neldermead::Simplex;
 use optim_record::{Counts, Record};
+use protocol::{GRADIENT, VALUE};
 use quasinewton::Descent;
 
 // Whether a number is that of the last accepted answer; before the first none is.
@@ -25,12 +27,12 @@ fn suits(r: Record, kind: u8, count: usize) -> bool
     ensures { result ≡ suitsOf r kind count }
 {
     if optim_reply::gradient_due(r) {
-        if kind != b'G' {
+        if kind != GRADIENT {
             return false;
         }
         return count == r.n;
     }
-    if kind != b'V' {
+    if kind != VALUE {
         return false;
     }
     count == 1

@@ -9,6 +9,7 @@ use mathlib.Core.List.{List}
 use lib.Dec.{eqb}
 use lib.ListN.{length, get_or}
 use lib.Ieee.{Float, nan}
+use Rattle.float.proofs.Tests.{not-cond}
 use Rattle.vector.specs.Lists.{first}
 use Rattle.vector.specs.Points.{fromSliceOf}
 use Rattle.vector.proofs.First.{point-laws}
@@ -134,14 +135,10 @@ module _ (r : Record) (S : Sound r) (b : Budget) (W : Bounded b r) (a : Answer) 
     unfolding suitsOf
     suits-as k n = rw (due-as r S) (go (wantsGradient fixed q))
       where
-        each : (b c : Bool) → not (cond (not b) false c) ≡ not (b && c)
-        each true c = refl
-        each false c = refl
-
         go : (b : Bool) → not (cond b (cond (not (eqb k 71)) false (eqb n r.n)) (cond (not (eqb k 86)) false (eqb n 1)))
             ≡ not (eqb k (letter (cond b Gradient Value)) && eqb n (wanted (cond b Gradient Value) point))
-        go true = each (eqb k 71) (eqb n r.n) ∙ ap (λ (c : ℕ). not (eqb k 71 && eqb n c)) (sym (point-laws.listed r.n _))
-        go false = each (eqb k 86) (eqb n 1)
+        go true = not-cond (eqb k 71) (eqb n r.n) ∙ ap (λ (c : ℕ). not (eqb k 71 && eqb n c)) (sym (point-laws.listed r.n _))
+        go false = not-cond (eqb k 86) (eqb n 1)
 
     taken-as : (w : List Float) → cond (gradientDueOf r) (takenGradientOf r (fromSliceOf w r.n)) (takenOf r (get_or w 0 nan)) ≡ standingOf (next r w)
     unfolding takenOf takenGradientOf

@@ -12,7 +12,7 @@ use lib.Ieee.{Float}
 use Rattle.vector.specs.Lists.{first}
 use Rattle.protocol.specs.declared.Kind.TheVariants.{Value, Gradient}
 use Rattle.protocol.specs.declared.Termination.TheVariants.{MaxIterations, MaxFevals, LineSearchFailed, GradientFailed}
-use Rattle.protocol.specs.Protocol.{converges, fitted, Reply, ask, ended, refused}
+use Rattle.protocol.specs.Protocol.{converges, fitted, Reply, ask, ended, refused, bfgsMark, lbfgsMark}
 use Rattle.protocol.specs.Ask.{Ask, finish, query, ◌>>=◌}
 use Rattle.protocol.specs.Rounds.{Ending, stops, fails, FitLimits, Kept, questionAt, put}
 use Rattle.protocol.specs.Fits.{mapText}
@@ -27,7 +27,7 @@ use Rattle.quasinewton_theory.specs.Follows.{positionOf, reasonOf, endingOf, toD
 use Rattle.quasinewton_theory.proofs.Follows.{gradient-follows}
 use Rattle.optim_fits_theory.specs.Fits.{allFits}
 use Rattle.optim_record.specs.declared.Record.{Record}
-use Rattle.optim_record.specs.Record.{bfgsMark, lbfgsMark, mostAllowed, mostEvals, noLimit, gradientFixedOf, gradientJobOf, validOf}
+use Rattle.optim_record.specs.Record.{mostAllowed, mostEvals, noLimit, gradientFixedOf, gradientJobOf, validOf}
 use Rattle.optim_record.proofs.Refusal1Parts.{ending-part}
 use Rattle.optim_record.proofs.Refusal1.{descent-valid}
 use Rattle.optim_reply.specs.Standing.{overOf, gradientDueOf, descentTerminationOf, descentConvergedOf, descentResultOf, standingDescentOf, standingOf}

@@ -21,7 +21,7 @@ use Rattle.protocol.specs.declared.Kind.{Kind}
 use Rattle.protocol.specs.declared.Kind.TheVariants.{Value, Gradient}
 use Rattle.protocol.specs.declared.GradientOptions.{GradientOptions}
 use Rattle.protocol.specs.declared.Refusal.{Refusal}
-use Rattle.protocol.specs.Protocol.{refusal, Reply, Job, bfgs, lbfgs, Fit, allowanceOf}
+use Rattle.protocol.specs.Protocol.{refusal, Reply, Job, bfgs, lbfgs, Fit, allowanceOf, bfgsMark, lbfgsMark}
 use Rattle.protocol.specs.Dialogue.{NotRefused}
 use Rattle.protocol.specs.Claim.{limit, unlimited, orDefault, defaultIter, defaultFevals}
 use Rattle.protocol.specs.Ask.{finish, ◌>>=◌}
@@ -39,7 +39,7 @@ use Rattle.quasinewton_theory.specs.Algorithm.{opened, opening, begunWith}
 use Rattle.quasinewton_theory.proofs.Follows.{gradient-follows}
 use Rattle.optim_fits_theory.specs.Fits.{allFits}
 use Rattle.optim_record.specs.declared.Record.{Record}
-use Rattle.optim_record.specs.Record.{bfgsMark, lbfgsMark, mostAllowed, mostEvals, noLimit, noOptions, idleOf, blankOf, gradientFixedOf, gradientJobOf}
+use Rattle.optim_record.specs.Record.{mostAllowed, mostEvals, noLimit, noOptions, idleOf, blankOf, gradientFixedOf, gradientJobOf}
 use Rattle.optim_reply.specs.Standing.{refusedOf, standingOf}
 use Rattle.optim_reply.proofs.Says.{stands-keeps}
 use Rattle.optim_first_record.specs.Starts.{limitOf, gradientPastLimitsOf, orderedOf, noMemoryOf, gradientRefusalOf, gradientLimitsOf, keptOptionsOf, gradientMarkOf, gradientRecordOf}

@@ -17,7 +17,7 @@ use Rattle.vector.specs.Points.{fromSliceOf}
 use Rattle.vector.proofs.First.{point-laws}
 use Rattle.protocol.specs.declared.Kind.{Kind}
 use Rattle.protocol.specs.declared.Kind.TheVariants.{Value, Gradient}
-use Rattle.protocol.specs.Protocol.{Question, Answer, refused}
+use Rattle.protocol.specs.Protocol.{Question, Answer, refused, simplexMark, searchMark, differencesMark}
 use Rattle.protocol.specs.Dialogue.{GivenF64s, NotRefused}
 use Rattle.protocol.specs.Ask.{Ask}
 use Rattle.protocol.specs.Bounds.{ofBoth, questionsOf}
@@ -30,7 +30,7 @@ use Rattle.objective.specs.Follows.{DifferencesSized, DifferencesZeroPast, toDo}
 use Rattle.objective.proofs.Follows.{follows}
 use Rattle.linesearch_theory.proofs.Counts.{counts as search-counts}
 use Rattle.optim_record.specs.declared.Record.{Record}
-use Rattle.optim_record.specs.Record.{simplexMark, searchMark, differencesMark, most, validOf, Other}
+use Rattle.optim_record.specs.Record.{most, validOf, Other}
 use Rattle.optim_record.proofs.Refusal1.{differences-valid}
 use Rattle.optim_reply.specs.Standing.{overOf, gradientDueOf}
 use Rattle.optim_reply.proofs.Says.{stands-keeps}

@@ -11,7 +11,7 @@ use lib.Dec.{eqb, ltb}
 use lib.ListN.{length, get_or}
 use lib.Ieee.{Float, nan}
 use Rattle.vector.specs.Points.{fromSliceOf}
-use Rattle.protocol.specs.Protocol.{Answer, Reply, refused, readOf}
+use Rattle.protocol.specs.Protocol.{Answer, Reply, refused, readOf, simplexMark}
 use Rattle.protocol.specs.Rounds.{FitLimits}
 use Rattle.protocol.specs.Places.{still, Held, at, closed, Placed, placed, putTurn, standingAt, acceptAt, freshAt, answerAt, Turns}
 use Rattle.quasinewton_theory.specs.Algorithm.{quasiNewton}
@@ -21,7 +21,7 @@ use Rattle.neldermead.specs.Step.{toldOf}
 use Rattle.neldermead_theory.specs.Follows.{Related, RelatedMove, settledMove, SimplexAllows}
 use Rattle.neldermead_theory.proofs.Follows.{simplex-follows, settles-as-fits}
 use Rattle.optim_record.specs.declared.Record.{Record}
-use Rattle.optim_record.specs.Record.{simplexMark, most, lastAsking, fixedOf, validOf}
+use Rattle.optim_record.specs.Record.{most, lastAsking, fixedOf, validOf}
 use Rattle.optim_reply.specs.Standing.{overOf, gradientDueOf, standingOf}
 use Rattle.optim_reply.proofs.Says.{stands-keeps}
 use Rattle.optim_rules.specs.Rules.{repeatsOf, suitsOf}

@@ -10,11 +10,11 @@ use Rattle.vector.specs.Points.{fromSliceOf, allFiniteOf}
 use Rattle.protocol.specs.declared.SimplexOptions.{SimplexOptions}
 use Rattle.protocol.specs.declared.GradientOptions.{GradientOptions}
 use Rattle.protocol.specs.declared.Allowances.{Allowances}
-use Rattle.protocol.specs.Protocol.{Answer, Reply, Job, simplex, bfgs, lbfgs, Fit}
+use Rattle.protocol.specs.Protocol.{Answer, Reply, Job, simplex, bfgs, lbfgs, Fit, simplexMark, searchMark}
 use Rattle.protocol.specs.Dialogue.{accepted, Dialogue, called, give, giveAll, begin, run, NotRefused, Started}
 use Rattle.protocol.specs.Places.{Placed}
 use Rattle.optim_record.specs.declared.Record.{Record}
-use Rattle.optim_record.specs.Record.{simplexMark, searchMark, gradientJobOf, validOf}
+use Rattle.optim_record.specs.Record.{gradientJobOf, validOf}
 use Rattle.optim_reply.specs.Standing.{overOf, gradientDueOf, standingOf}
 use Rattle.optim_reply.proofs.Says.{stands-keeps}
 use Rattle.optim_first_record.specs.Starts.{simplexRefusalOf, simplexRecordOf, gradientRefusalOf, gradientRecordOf}

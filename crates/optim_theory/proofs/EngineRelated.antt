@@ -16,7 +16,7 @@ use Rattle.vector.specs.Ties.{ZeroFrom}
 use Rattle.protocol.specs.declared.SimplexOptions.{SimplexOptions}
 use Rattle.protocol.specs.declared.Termination.{Termination}
 use Rattle.protocol.specs.declared.Termination.TheVariants.{GradientTolerance, SimplexTolerance, StepTolerance, FunctionTolerance, MaxIterations, MaxFevals, LineSearchFailed, GradientFailed, ObjectiveResolution}
-use Rattle.protocol.specs.Protocol.{converges, Result, fitted, Reply, ask, ended, refused}
+use Rattle.protocol.specs.Protocol.{converges, Result, fitted, Reply, ask, ended, refused, simplexMark}
 use Rattle.protocol.specs.Rounds.{atHead, stops, fails, FitLimits, resultAt, questionAt}
 use Rattle.protocol.specs.Places.{still, ends, Steps, Held, at, closed, Placed, placed, putTurn, mapTurn, Places, fitsSteps}
 use Rattle.neldermead_theory.specs.Algorithm.{SimplexPosition, nelderMead}
@@ -28,7 +28,7 @@ use Rattle.neldermead_theory.specs.Counts.{byFevals}
 use Rattle.neldermead_theory.specs.Ties.{lowered}
 use Rattle.neldermead_theory.specs.Follows.{EveryPoint, SimplexShaped, markOf, Related, Stopped, RelatedMove, SimplexAllows}
 use Rattle.optim_record.specs.declared.Record.{Record}
-use Rattle.optim_record.specs.Record.{simplexMark, most, mostAllowed, mostRestarts, lastAsking, lastPhase, fixedOf, validOf}
+use Rattle.optim_record.specs.Record.{most, mostAllowed, mostRestarts, lastAsking, lastPhase, fixedOf, validOf}
 use Rattle.optim_record.proofs.Refusal1.{simplex-valid}
 use Rattle.optim_reply.specs.Standing.{terminationOf, resultOf, standingSimplexOf, standingOf}
 use Rattle.optim_theory.proofs.Textual.{textual}

@@ -8,6 +8,7 @@ use mathlib.Core.List.{List}
 use lib.Dec.{eqb}
 use lib.ListN.{length, get_or}
 use lib.Ieee.{Float, nan}
+use Rattle.float.proofs.Tests.{not-cond}
 use Rattle.vector.specs.Points.{fromSliceOf}
 use Rattle.protocol.specs.declared.Kind.{Kind}
 use Rattle.protocol.specs.declared.Kind.TheVariants.{Value, Gradient}
@@ -104,14 +105,10 @@ module _ {A : Type 0} (ending : A → Reply) (Related : Record → Text A → Ty
       unfolding suitsOf
       suits-as k n = rw o.due (go o.kind)
         where
-          each : (b c : Bool) → not (cond (not b) false c) ≡ not (b && c)
-          each true c = refl
-          each false c = refl
-
           go : (j : Kind) → not (cond (asksGradient j) (cond (not (eqb k 71)) false (eqb n r.n)) (cond (not (eqb k 86)) false (eqb n 1)))
               ≡ not (eqb k (letter j) && eqb n (wanted j o.point))
-          go Gradient = each (eqb k 71) (eqb n r.n) ∙ ap (λ (c : ℕ). not (eqb k 71 && eqb n c)) (sym o.long)
-          go Value = each (eqb k 86) (eqb n 1)
+          go Gradient = not-cond (eqb k 71) (eqb n r.n) ∙ ap (λ (c : ℕ). not (eqb k 71 && eqb n c)) (sym o.long)
+          go Value = not-cond (eqb k 86) (eqb n 1)
 
       taken-as : (w : List Float) → cond (gradientDueOf r) (takenGradientOf r (fromSliceOf w r.n)) (takenOf r (get_or w 0 nan)) ≡ standingOf (next r w)
       unfolding takenOf takenGradientOf

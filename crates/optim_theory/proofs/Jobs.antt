@@ -2,11 +2,12 @@
 use Prim.Native.Nat.{ℕ, ◌+◌, ◌≤◌}
 use native.Mathlib.Omega.{arith}
 use mathlib.Core.Path.{◌≡◌, refl, sym, ap, subst}
-use mathlib.Core.Bool.{Bool, true, false, not, ◌&&◌, cond}
+use mathlib.Core.Bool.{Bool, true, false, not, ◌&&◌, cond, true≢false}
 use mathlib.Core.List.{List, [], ◌∷◌, ◌++◌}
 use borrow.Author.Tests.{eqb-true, ne_eqb}
 use lib.Dec.{eqb}
 use lib.Ieee.{Float}
+use Rattle.float.proofs.Tests.{and-false}
 use Rattle.protocol.specs.declared.Kind.{Kind}
 use Rattle.protocol.specs.declared.Kind.TheVariants.{Value, Gradient}
 use Rattle.protocol.specs.Protocol.{Question, Answer, Reply, refused}
@@ -58,10 +59,7 @@ module _ {A : Type 0} (ending : A → Reply) (closes : Closes ending) (κ : Kind
         → Keeps (called (jobOf y (answerBy ending)) d a (number && form)
         (cond repeat (r, d.recordNow)
         (cond (not number) (refused 16 0, d.recordNow) (cond (not form) (refused 17 0, d.recordNow) (acceptedBy ending d.recordNow j (c a.words))))))
-    open-on d j x c k h r true true true i = absurd (clash (i refl))
-      where
-        clash : true ≡ false → ⊥
-        clash e = let z : ◌≡◌ {A = ℕ} 0 1 = cc in omega arith
+    open-on d j x c k h r true true true i = absurd (true≢false (i refl))
     open-on d j x c k h r true true false i =
         let t = d.recordNow in
         record {
@@ -79,11 +77,7 @@ module _ {A : Type 0} (ending : A → Reply) (closes : Closes ending) (κ : Kind
 
     -- the number of the open question is not that last accepted
     fresh : (n : ℕ) → eqb a.number (n + 1) ≡ true → (not (eqb n 0) && eqb a.number n) ≡ false
-    fresh n e = rw (ne_eqb a.number n (λ i. omega (arith, eqb-true a.number (n + 1) e))) (none (not (eqb n 0)))
-      where
-        none : (b : Bool) → (b && false) ≡ false
-        none true = refl
-        none false = refl
+    fresh n e = rw (ne_eqb a.number n (λ i. omega (arith, eqb-true a.number (n + 1) e))) (and-false (not (eqb n 0)))
 
     -- what stands is what the text shows
     abbrev at-text : Text A → List Question → List Exchange → List Reply → Dialogue (Text A)

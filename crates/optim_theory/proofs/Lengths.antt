@@ -13,14 +13,14 @@ use Rattle.vector.proofs.First.{point-laws}
 use Rattle.protocol.specs.declared.SimplexOptions.{SimplexOptions}
 use Rattle.protocol.specs.declared.GradientOptions.{GradientOptions}
 use Rattle.protocol.specs.declared.Allowances.{Allowances}
-use Rattle.protocol.specs.Protocol.{Question, Answer, Reply, ask, ended, refused, Job, simplex, bfgs, lbfgs, Fit, Engine}
+use Rattle.protocol.specs.Protocol.{Question, Answer, Reply, ask, ended, refused, Job, simplex, bfgs, lbfgs, Fit, Engine, simplexMark, searchMark}
 use Rattle.protocol.specs.Dialogue.{questionIn, accepted, Dialogue, NotRefused, called, give, giveAll, begin, run}
 use Rattle.linesearch_trials.specs.Start.{lineFromOf, lineRefusalOf}
 use Rattle.linesearch.specs.Step as linesearch
 use Rattle.quasinewton.specs.Step as quasinewton
 use Rattle.neldermead.specs.Step.{notFinite}
 use Rattle.optim_record.specs.declared.Record.{Record}
-use Rattle.optim_record.specs.Record.{simplexMark, searchMark, lastAsking, gradientJobOf, validOf}
+use Rattle.optim_record.specs.Record.{lastAsking, gradientJobOf, validOf}
 use Rattle.optim_reply.specs.Standing.{overOf, gradientDueOf, resultOf, standingSimplexOf, searchResultOf, standingSearchOf, descentResultOf, standingDescentOf, standingDifferencesOf, standingOf}
 use Rattle.optim_first_record.specs.Starts.{begunRecordOf, simplexRefusalOf, simplexRecordOf, gradientRefusalOf, gradientRecordOf, searchRefusalOf, searchRecordOf}
 use Rattle.optim_rules.specs.Rules.{repeatsOf, suitsOf}

@@ -9,8 +9,9 @@ use lib.Dec.{T, eqb, ltb, leb}
 use borrow.Author.Tests.{eqb-true, ne_eqb}
 use lib.ListN.{length, get_or}
 use lib.Ieee.{Float, nan}
+use Rattle.float.proofs.Tests.{either}
 use Rattle.vector.specs.Points.{fromSliceOf}
-use Rattle.protocol.specs.Protocol.{Question, Outcome, Reply, ask, ended, refused, readOf}
+use Rattle.protocol.specs.Protocol.{Question, Outcome, Reply, ask, ended, refused, readOf, simplexMark, bfgsMark, lbfgsMark, searchMark}
 use Rattle.protocol.proofs.Replies.{ask≢refused, ended≢refused}
 use Rattle.objective.specs.Step.{toldOf}
 use Rattle.neldermead.specs.Step.{notFinite, toldOf as simplexTold}
@@ -20,7 +21,7 @@ use Rattle.quasinewton.specs.Step.{byRefusal, Moved}
 use Rattle.optim_record.specs.declared.Record.{Record}
 use Rattle.linesearch.specs.Step as linesearch
 use Rattle.linesearch.specs.Step.{asksGradient, asksDifference}
-use Rattle.optim_record.specs.Record.{simplexMark, bfgsMark, lbfgsMark, searchMark, lastAsking, fixedOf, searchFixedOf, gradientFixedOf, gradientJobOf, knownRefusalOf, validEndingOf, blankOf, validOf}
+use Rattle.optim_record.specs.Record.{lastAsking, fixedOf, searchFixedOf, gradientFixedOf, gradientJobOf, knownRefusalOf, validEndingOf, blankOf, validOf}
 use Rattle.optim_record.specs.Refusal1.{OneOf, EndingMark}
 use Rattle.optim_record.proofs.Refusal1Parts.{known, ending-part}
 use Rattle.optim_record.proofs.Refusal1.{in-range}
@@ -54,11 +55,6 @@ refused-number {k} {d} {j} {c} e = sym (ap number e)
     number (ask q) = 0
     number (ended o) = 0
     number (refused i h) = i
-
--- what holds of both arms holds of a test
-either : (P : Reply × Record → Type 0) (b : Bool) (x y : Reply × Record) → P x → P y → P (cond b x y)
-either P true x y p q = p
-either P false x y p q = q
 
 -- a test that is true leaves its first arm
 taken-arm : (b : Bool) (x y : Reply × Record) → b ≡ true → cond b x y ≡ x

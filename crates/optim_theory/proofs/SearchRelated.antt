@@ -17,7 +17,7 @@ use Rattle.vector.proofs.First.{point-laws}
 use Rattle.vector.specs.Ties.{ZeroFrom}
 use Rattle.protocol.specs.declared.Kind.{Kind}
 use Rattle.protocol.specs.declared.Kind.TheVariants.{Value, Gradient}
-use Rattle.protocol.specs.Protocol.{readOf}
+use Rattle.protocol.specs.Protocol.{readOf, simplexMark, searchMark}
 use Rattle.protocol.specs.Dialogue.{ofKind}
 use Rattle.protocol.specs.Ask.{Ask, finish, query, ◌>>=◌}
 use Rattle.protocol.specs.Bounds.{Costs, ofBoth}
@@ -30,7 +30,7 @@ use Rattle.linesearch_theory.specs.Follows.{kindOf, LineHas, SearchShaped, Searc
 use Rattle.linesearch_theory.proofs.Follows.{search-follows}
 use Rattle.quasinewton.specs.Step.{searching, withSearch}
 use Rattle.optim_record.specs.declared.Record.{Record}
-use Rattle.optim_record.specs.Record.{simplexMark, searchMark, mostEvals, searchFixedOf, validOf}
+use Rattle.optim_record.specs.Record.{mostEvals, searchFixedOf, validOf}
 use Rattle.optim_record.proofs.Refusal1.{search-valid}
 use Rattle.optim_reply.specs.Standing.{overOf, gradientDueOf, searchResultOf, standingSearchOf, standingOf}
 use Rattle.optim.specs.Answer.{valuedOf, slopedOf, steppedOf, gradedOf}

@@ -3,7 +3,7 @@ use Prim.Native.Nat.{ℕ, ◌+◌, ◌*◌, ◌≤◌, ◌<◌}
 use native.Mathlib.Nat.{le_refl, add-zero}
 use native.Mathlib.Omega.{arith}
 use mathlib.Core.Path.{◌≡◌, refl, sym, ◌∙◌, ap, ap₂, subst}
-use mathlib.Core.Bool.{Bool, true, false, not, ◌&&◌, ◌||◌, cond}
+use mathlib.Core.Bool.{Bool, true, false, not, ◌&&◌, ◌||◌, cond, true≢false}
 use mathlib.Core.List.{List}
 use borrow.Author.Tests.{ltb-false, eqb-true, eqb-false, not-false}
 use lib.Dec.{eqb, ltb}
@@ -84,9 +84,6 @@ finite-as x n e = ties.all-finite (fromSliceOf x n) n ∙ ap allFinite (whole x 
 
 slope-as : (g d : List Float) (n : ℕ) → length g ≡ n → length d ≡ n → dotOf (fromSliceOf g n) (fromSliceOf d n) n ≡ dot g d
 slope-as g d n i j = ties.dot-of (fromSliceOf g n) (fromSliceOf d n) n ∙ ap₂ dot (whole g n i) (whole d n j)
-
-clash : true ≡ false → ⊥
-clash i = let z : ◌≡◌ {A = ℕ} 0 1 = cc in omega arith
 
 module _ (s : SearchStart) where
   abbrev n : ℕ
@@ -192,10 +189,10 @@ module _ (s : SearchStart) where
     where
       go : (a b c d : Bool) → ltb 16 n ≡ a → ltb mostEvals o.evals ≡ d → a || (b || (c || d)) ≡ false → (n ≤ 16) × (o.evals ≤ mostEvals)
       go false false false false i j z = (ltb-false 16 n i, ltb-false mostEvals o.evals j)
-      go true b c d i j z = absurd (clash z)
-      go false true c d i j z = absurd (clash z)
-      go false false true d i j z = absurd (clash z)
-      go false false false true i j z = absurd (clash z)
+      go true b c d i j z = absurd (true≢false z)
+      go false true c d i j z = absurd (true≢false z)
+      go false false true d i j z = absurd (true≢false z)
+      go false false false true i j z = absurd (true≢false z)
 
   -- the options' tests, then the counts', then the line's
   in-turn : (why why' : Refusal) (y : Reply × Record) → decide (cond (not (eqb why.number 0)) why why') y ≡ decide why (decide why' y)

@@ -17,6 +17,22 @@ use Rattle.protocol.specs.declared.Refusal.{Refusal}
 use Rattle.protocol.specs.declared.Said.{Said}
 use Rattle.protocol.specs.declared.Said.TheVariants.{Ask, Fitted, Searched, Differenced, Refused}
 
+-- "A job is simplex, bfgs, lbfgs, search or differences": the marks of the jobs
+abbrev pub simplexMark : ℕ
+simplexMark = 1
+
+abbrev pub bfgsMark : ℕ
+bfgsMark = 2
+
+abbrev pub lbfgsMark : ℕ
+lbfgsMark = 3
+
+abbrev pub searchMark : ℕ
+searchMark = 4
+
+abbrev pub differencesMark : ℕ
+differencesMark = 5
+
 -- "a kind (V for a value, G for a gradient)", as the byte of its letter
 abbrev pub letter : Kind → ℕ
 letter Value = 86

@@ -6,6 +6,7 @@ use lib.Dec.{eqb}
 use lib.ListN.{length, get_or, drop}
 use lib.Ieee.{Float, nan, binary64, lt, fits, of_bits}
 use lib.Ieee.Fits.{cond-fits}
+use Rattle.float.proofs.Tests.{either}
 use Rattle.float.specs.Binary64.{F64, ◌⊕◌, ◌⊗◌, ◌⊘◌, plusZero, minusZero}
 use Rattle.float.proofs.Closed.{closed}
 use Rattle.vector.specs.Loops.{upto}
@@ -32,10 +33,6 @@ each-upto P d g p q (suc n) k = each-append P d (upto g n) (g n ∷ []) (each-up
 each-drop : {A : Type 0} (P : A → Type 0) (d : A) (a : List A) → ((k : ℕ) → P (get_or a k d)) → (k : ℕ) → P (get_or (drop 1 a) k d)
 each-drop P d [] p k = p k
 each-drop P d (x ∷ xs) p k = p (suc k)
-
-each-cond : {A : Type 0} (P : A → Type 0) (b : Bool) (x y : A) → P x → P y → P (cond b x y)
-each-cond P true x y p q = p
-each-cond P false x y p q = q
 
 -- ---- lists of f64s
 none : F64 nan
@@ -116,7 +113,7 @@ update-words (limited l) s y w ws wy =
     let few = cond (eqb (length l.pairs) l.m) (drop 1 l.pairs) l.pairs in (
       cond-fits binary64 (lt plusZero (dot y y)) (sy ⊘ dot y y) l.gamma (closed.quotient sy (dot y y)) w.0,
       each-append PairWords noPair few (p ∷ [])
-          (each-cond (λ (ps : List Pair). (k : ℕ) → PairWords (pairAt ps k)) (eqb (length l.pairs) l.m) (drop 1 l.pairs) l.pairs (each-drop PairWords noPair l.pairs w.1) w.1)
+          (either (λ (ps : List Pair). (k : ℕ) → PairWords (pairAt ps k)) (eqb (length l.pairs) l.m) (drop 1 l.pairs) l.pairs (each-drop PairWords noPair l.pairs w.1) w.1)
           (each-one PairWords noPair p (λ k. none, λ k. none, none) (ws, wy, closed.quotient one sy)),
     )
 

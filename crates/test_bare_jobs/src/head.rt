@@ -2,7 +2,7 @@
 // fields are taken from that reader one by one, as each ends.
 use lines_options::Field;
 use lines_reader::STOPPED;
-use optim_record::{DIFFERENCES, SEARCH};
+use protocol::{DIFFERENCES, SEARCH};
 
 // Search's mark and differences', 0 for a line of another form; whether gradients are given, and
 // max_evals.

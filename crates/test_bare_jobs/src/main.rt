@@ -32,8 +32,7 @@ use head::Job;
 use libc::{STDERR_FILENO, STDIN_FILENO};
 use lines_options::LineRead;
 use optim::{Answered, Record};
-use optim_record::{DIFFERENCES, SEARCH};
-use protocol::{Said, WolfeOptions};
+use protocol::{DIFFERENCES, SEARCH, Said, WolfeOptions};
 
 // A list's words: whether its line has that form, how many are lent, and seventeen of them. Seventeen
 // are as refused as more.

@@ -5,4 +5,4 @@ use Rattle.lines_print.proofs.put_ask.Goals as goal
 
 pub returns : goal.returns
 returns c =
-    whole (wrote-is (then c.put_text-a.ensures (then c.put_decimal-b.ensures.1 (then (then c.put_byte-d.ensures c.put_byte-e.ensures) (then c.put_values-f.ensures.1 c.put_byte.ensures)))) (ask-line c.args.number c.args.kind c.args.x c.kind_letter-k.result c.limited-m.result c.args.n c.kind_letter-k.ensures c.limited-m.ensures.0))
+    whole (wrote-is (then c.put_text-a.ensures (then c.put_decimal-b.ensures.1 (then (then c.put_byte-d.ensures c.put_byte-e.ensures) (then c.put_values-f.ensures.1 c.put_byte.ensures)))) (ask-line c.args.number c.args.kind c.args.x c.letter-k.result c.limited-m.result c.args.n c.letter-k.ensures c.limited-m.ensures.0))

@@ -3,18 +3,18 @@ use borrow.Author.Tests.{eq-eqb, ne_eqb}
 use Rattle.optim_rules.specs.Rules.{suitsOf}
 use Rattle.optim_rules.proofs.suits.Goals as goal
 
-pub returns-then-kind-ne71 : goal.returns-then-kind-ne71
+pub returns-then-kind-ne-GRADIENT : goal.returns-then-kind-ne-GRADIENT
 unfolding suitsOf
-returns-then-kind-ne71 c = rw (← c.gradient_due.ensures, c.if-gradient_due.true, ne_eqb _ _ c.if-kind-ne71.true)
+returns-then-kind-ne-GRADIENT c = rw (← c.gradient_due.ensures, c.if-gradient_due.true, ne_eqb _ _ c.if-kind-ne-GRADIENT.true)
 
 pub returns-then-gradient_due : goal.returns-then-gradient_due
 unfolding suitsOf
-returns-then-gradient_due c = rw (← c.gradient_due.ensures, c.if-gradient_due.true, eq-eqb _ _ c.if-kind-ne71.false)
+returns-then-gradient_due c = rw (← c.gradient_due.ensures, c.if-gradient_due.true, eq-eqb _ _ c.if-kind-ne-GRADIENT.false)
 
-pub returns-then-kind-ne86 : goal.returns-then-kind-ne86
+pub returns-then-kind-ne-VALUE : goal.returns-then-kind-ne-VALUE
 unfolding suitsOf
-returns-then-kind-ne86 c = rw (← c.gradient_due.ensures, c.if-gradient_due.false, ne_eqb _ _ c.if-kind-ne86.true)
+returns-then-kind-ne-VALUE c = rw (← c.gradient_due.ensures, c.if-gradient_due.false, ne_eqb _ _ c.if-kind-ne-VALUE.true)
 
 pub returns : goal.returns
 unfolding suitsOf
-returns c = rw (← c.gradient_due.ensures, c.if-gradient_due.false, eq-eqb _ _ c.if-kind-ne86.false)
+returns c = rw (← c.gradient_due.ensures, c.if-gradient_due.false, eq-eqb _ _ c.if-kind-ne-VALUE.false)

@@ -5,7 +5,7 @@ use Rattle.c_api.proofs.reply.hand.Goals as goal
 
 pub returns-in-Ask : goal.returns-in-Ask
 unfolding of_bits
-returns-in-Ask c = ask-made _ _ _ _ c.in-Ask.is c.byte.ensures
+returns-in-Ask c = ask-made _ _ _ _ c.in-Ask.is c.letter.ensures
 
 pub returns-in-Fitted : goal.returns-in-Fitted
 unfolding of_bits
