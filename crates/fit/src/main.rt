@@ -62,17 +62,8 @@ fn line_fed<W: Write>(output: &mut W, p: Place, s: &[u8], from: usize, written: 
 {
     let mut out = [0u8; 512];
     let step = fit_dialogue::stepped(&mut out, p, s, from);
-    if written {
-        let done = write_reply(output, &out[..step.count]);
-        return Stepped {
-            step,
-            written: done,
-        };
-    }
-    Stepped {
-        step,
-        written: false,
-    }
+    let written = written && write_reply(output, &out[..step.count]);
+    Stepped { step, written }
 }
 
 // A part of the input, line by line.
@@ -86,9 +77,8 @@ fn fed_part<W: Write>(output: &mut W, p: Place, s: &[u8]) -> Fed
     let mut at: usize = 0;
     while at < s.len() {
         let q = line_fed(output, place, s, at, written);
-        let next = q.step.place;
         at = q.step.at;
-        place = next;
+        place = q.step.place;
         written = q.written;
     }
     Fed { place, written }
@@ -104,9 +94,9 @@ fn ended<W: Write>(output: &mut W, p: Place) -> bool
     write_reply(output, &out[..count])
 }
 
-// The whole input, part by part as reads give it. `whole`: every reply that is due of it was written, and nothing else. `lost`: no
-// more than a front of that. `cut`: where a read fails, be it the first or a later one, each line read before it was answered, and
-// the line that is open was not: so no reply waits for a read.
+// The whole input, part by part as reads give it. `whole`: every reply that is due was written, and nothing
+// else. `lost`: no more than a front of that. `cut`: where a read fails, be it the first or a later one, each
+// line before it was answered, and the line that it left open was not, so that no reply waits for a read.
 fn run<R: Read, W: Write>(input: &mut R, output: &mut W) -> End
     ensures whole { result ≡ End.Whole → IfSome (R.remaining input.old)
         (λ bs. Appends (W.contents output.old) (W.contents output.new) (outputOf bs)) }
@@ -150,8 +140,8 @@ fn say_write_failed(rt: &impl Eprint) {
     let _ = rt.eprintln("fit: a write to standard output failed");
 }
 
-// Neither stream has a buffer: a write reaches the system as it is made. No contract knows the bytes of a system's stream, so
-// what `run` ensures of known bytes is said of the reader and the writer of a caller that knows them.
+// Neither stream has a buffer: a write reaches the system as it is made. No contract knows what a stream of
+// the system gives or takes, so `run` speaks of any reader and writer whose bytes are known.
 fn main(rt: HostRuntime) {
     match run(&mut rt.stdin(), &mut rt.stdout()) {
         End::ReadFailed => say_read_failed(&rt),

@@ -1,5 +1,5 @@
 -- `fit::fed_part` meets its contract: each line goes further, and adds what it brings. Assumes nothing.
-use Rattle.std.proofs.Common.{◌≡◌, List, ◌++◌, ℕ, drop, sym, ap, subst, ◌∙◌, arith, append-nil}
+use Rattle.std.proofs.Common.{List, ◌++◌, ℕ, drop, sym, ap, subst, ◌∙◌, arith, append-nil}
 use Rattle.fit_state.specs.States.{scannedOf}
 use Rattle.fit_dialogue.specs.declared.Place.{Place}
 use Rattle.fit_dialogue.specs.declared.Step.{Step}
