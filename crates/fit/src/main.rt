@@ -3,12 +3,15 @@
 // decided, and no reply is written behind one that was lost.
 #![tactic(auto)]
 
-ghost use Rattle.std.specs.Prelude.{◌≡◌, false, drop};
-ghost use Rattle.fit_dialogue.specs.Program.{passedOf, stepOf};
+ghost use Rattle.std.specs.Prelude.{◌≡◌, ◌≢◌, ℕ, true, false, List, [], drop, IfSome};
+ghost use Rattle.std.specs.Io.KnownBytes.{Appends, Consumes, Keeps};
+ghost use Rattle.fit_state.specs.States.{scannedOf};
+ghost use Rattle.fit_dialogue.specs.Program.{byBytes, firstPlace, outputOf, passedOf, stepOf, turnedOf};
+ghost use Rattle.fit.specs.Output.{Wrote};
 
 use fit_dialogue::{Place, Step};
-use libc::{STDERR_FILENO, STDIN_FILENO, STDOUT_FILENO};
 use lines_reader::STOPPED;
+use std::io::{Read, Write};
 
 // A step, and whether every reply up to it was written.
 #[derive(Drop)]
@@ -24,96 +27,125 @@ struct Fed {
     written: bool,
 }
 
-fn write_part(out: &[u8], n: usize) -> bool {
-    if n <= out.len() {
-        return io::write_all(STDOUT_FILENO, &out[..n]);
+// How a run ends: with nothing left to be written, at a read or a write that failed, or after 2^64 - 1 reads.
+#[derive(Clone, Copy)]
+enum End {
+    Whole,
+    ReadFailed,
+    WriteFailed,
+    Unfinished,
+}
+
+// Writes all the bytes and answers true, or stops at the first write that takes nothing or fails.
+fn write_reply<W: Write>(output: &mut W, bytes: &[u8]) -> bool
+    ensures { Wrote result (W.contents output.old) (W.contents output.new) bytes.now }
+{
+    let mut rest = bytes;
+    while !rest.is_empty() {
+        match output.write(rest) {
+            Ok(0) => return false,
+            Ok(n) => rest = &rest[n..],
+            Err(_) => return false,
+        }
     }
-    false
-}
-
-// Writes the first n bytes of the buffer, and answers whether it did.
-fn write_reply(out: &[u8; 512], n: usize) -> bool {
-    write_part(out, n)
-}
-
-fn say_read_failed() {
-    io::write_all(STDERR_FILENO, b"fit: a read of standard input failed\n");
-}
-
-fn say_write_failed() {
-    io::write_all(STDERR_FILENO, b"fit: a write to standard output failed\n");
+    true
 }
 
 // One line of a part: what it brings is written, unless a reply before it was lost.
-fn line_fed(p: Place, s: &[u8], from: usize, written: bool) -> Stepped
-    ensures { (result.step ≡ stepOf p from (drop from s.now)) × (written ≡ false → result.written ≡ false) }
+fn line_fed<W: Write>(output: &mut W, p: Place, s: &[u8], from: usize, written: bool) -> Stepped
+    ensures step { result.step ≡ stepOf p from (drop from s.now) }
+    ensures lost { written ≡ false → result.written ≡ false }
+    ensures kept { written ≡ false → Keeps (W.contents output.old) (W.contents output.new) }
+    ensures reply { written ≡ true →
+        Wrote result.written (W.contents output.old) (W.contents output.new)
+        (turnedOf p (scannedOf from (drop from s.now) p.reader)).0 }
 {
     let mut out = [0u8; 512];
     let step = fit_dialogue::stepped(&mut out, p, s, from);
-    if written {
-        let done = write_reply(&out, step.count);
-        return Stepped {
-            step,
-            written: done,
-        };
-    }
-    Stepped {
-        step,
-        written: false,
-    }
+    let written = written && write_reply(output, &out[..step.count]);
+    Stepped { step, written }
 }
 
 // A part of the input, line by line.
-fn fed_part(p: Place, s: &[u8]) -> Fed
-    ensures { result.place ≡ (passedOf p s.now).1 }
+fn fed_part<W: Write>(output: &mut W, p: Place, s: &[u8]) -> Fed
+    ensures place { result.place ≡ (passedOf p s.now).1 }
+    ensures replies { Wrote result.written (W.contents output.old) (W.contents output.new)
+        (passedOf p s.now).0 }
 {
     let mut place = p;
     let mut written = true;
     let mut at: usize = 0;
     while at < s.len() {
-        let q = line_fed(place, s, at, written);
-        let next = q.step.place;
+        let q = line_fed(output, place, s, at, written);
         at = q.step.at;
-        place = next;
+        place = q.step.place;
         written = q.written;
     }
     Fed { place, written }
 }
 
 // The input ends: what a line that is begun brings is written.
-fn ended(p: Place) {
+fn ended<W: Write>(output: &mut W, p: Place) -> bool
+    ensures { Wrote result (W.contents output.old) (W.contents output.new)
+        (byBytes p.state p.reader []) }
+{
     let mut out = [0u8; 512];
     let count = fit_dialogue::closed(&mut out, p);
-    if !write_reply(&out, count) {
-        say_write_failed();
-    }
+    write_reply(output, &out[..count])
 }
 
-fn main() {
-    let mut buf = io::large_buffer();
+// The whole input, part by part as reads give it. `whole`: every reply that is due was written, and nothing
+// else. `lost`: no more than a front of that. `cut`: where a read fails, be it the first or a later one, each
+// line before it was answered, and the line that it left open was not, so that no reply waits for a read.
+fn run<R: Read, W: Write>(input: &mut R, output: &mut W) -> End
+    ensures whole { result ≡ End.Whole → IfSome (R.remaining input.old)
+        (λ bs. Appends (W.contents output.old) (W.contents output.new) (outputOf bs)) }
+    ensures lost { result ≡ End.WriteFailed → IfSome (R.remaining input.old)
+        (λ bs. Wrote false (W.contents output.old) (W.contents output.new) (outputOf bs)) }
+    ensures cut { result ≢ End.Whole → result ≢ End.WriteFailed → (bs : List ℕ)
+        × Consumes (R.remaining input.old) (R.remaining input.new) bs
+        × Appends (W.contents output.old) (W.contents output.new) (passedOf firstPlace bs).0 }
+{
+    let mut buf = [0u8; 65536];
     let mut place = fit_dialogue::opened();
-    let mut turns = u64::MAX;
-    while turns > 0 {
-        turns -= 1;
-        let got = libc::read(STDIN_FILENO, &mut buf);
-        if got < 0 {
-            say_read_failed();
-            return;
+    for _ in 0..u64::MAX {
+        match input.read(&mut buf) {
+            Err(_) => return End::ReadFailed,
+            Ok(0) => {
+                if ended(output, place) {
+                    return End::Whole;
+                }
+                return End::WriteFailed;
+            }
+            Ok(n) => {
+                let fed = fed_part(output, place, &buf[..n]);
+                place = fed.place;
+                if !fed.written {
+                    return End::WriteFailed;
+                }
+                if place.state.due == STOPPED {
+                    return End::Whole;
+                }
+            }
         }
-        if got == 0 {
-            ended(place);
-            return;
-        }
-        let n = io::count(got, &buf);
-        let fed = fed_part(place, &buf[..n]);
-        let next = fed.place;
-        place = next;
-        if !fed.written {
-            say_write_failed();
-            return;
-        }
-        if place.state.due == STOPPED {
-            return;
-        }
+    }
+    End::Unfinished
+}
+
+fn say_read_failed(rt: &impl Eprint) {
+    let _ = rt.eprintln("fit: a read of standard input failed");
+}
+
+fn say_write_failed(rt: &impl Eprint) {
+    let _ = rt.eprintln("fit: a write to standard output failed");
+}
+
+// Neither stream has a buffer: a write reaches the system as it is made. No contract knows what a stream of
+// the system gives or takes, so `run` speaks of any reader and writer whose bytes are known.
+fn main(rt: HostRuntime) {
+    match run(&mut rt.stdin(), &mut rt.stdout()) {
+        End::ReadFailed => say_read_failed(&rt),
+        End::WriteFailed => say_write_failed(&rt),
+        _ => {}
     }
 }

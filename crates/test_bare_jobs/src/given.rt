@@ -47,13 +47,11 @@ fn fed(g: Given, b: u8) -> Given {
 // Feeds the bytes from a place on to the line, up to the first line feed or to their end.
 pub fn scanned(s: &[u8], from: usize, g: Given) -> Scan {
     let mut given = g;
-    let mut i = from;
-    while i < s.len() {
+    for i in from..s.len() {
         let b = s[i];
-        i += 1;
         if b == b'\n' {
             return Scan {
-                at: i,
+                at: i + 1,
                 ended: true,
                 given,
             };
@@ -62,7 +60,7 @@ pub fn scanned(s: &[u8], from: usize, g: Given) -> Scan {
         given = next;
     }
     Scan {
-        at: i,
+        at: s.len(),
         ended: false,
         given,
     }

@@ -29,10 +29,10 @@ ghost use Rattle.std.specs.Prelude.{◌≤◌, ◌≡◌, length, take};
 
 use given::Given;
 use head::Job;
-use libc::{STDERR_FILENO, STDIN_FILENO};
 use lines_options::LineRead;
 use optim::{Answered, Record};
 use protocol::{DIFFERENCES, SEARCH, Said, WolfeOptions};
+use std::io::{Read, Stdout};
 
 // A list's words: whether its line has that form, how many are lent, and seventeen of them. Seventeen
 // are as refused as more.
@@ -45,9 +45,10 @@ struct Words {
 
 // The state between two lines. `due` is what the next one is to be: 1 a job's first line, 2 the numbers
 // of a search, 3 its start, 4 its direction, 5 its start gradient, 6 the point of differences, 7 an
-// answer; 0 where the program has stopped. `written` is whether every reply was written.
+// answer; 0 where the program has stopped. `written` is whether every reply was written to `output`.
 #[derive(Clone, Copy)]
 struct State {
+    output: Stdout,
     due: u64,
     written: bool,
     number: u64,
@@ -81,7 +82,7 @@ fn onward(s: State, due: u64) -> State {
 
 fn bad(s: State) -> State {
     let mut next = onward(s, 0);
-    next.written = print::bad(s.number);
+    next.written = print::bad(s.output, s.number);
     next
 }
 
@@ -112,23 +113,23 @@ fn words_of(l: LineRead) -> Words {
 }
 
 // Whether the reply is written. No bare job has a fit's outcome.
-fn shown(a: Answered) -> bool {
+fn shown(output: Stdout, a: Answered) -> bool {
     let x = a.x;
     let g = a.g;
     let next = a.next;
     let said = a.said;
     match said {
-        Said::Ask(number, kind) => print::ask(number, kind, x, next.n),
-        Said::Fitted(_) => print::no(0, 0),
-        Said::Searched(found) => print::searched(found, x, g, next.n),
-        Said::Differenced => print::differenced(g, next.n),
-        Said::Refused(number, detail) => print::no(number, detail),
+        Said::Ask(number, kind) => print::ask(output, number, kind, x, next.n),
+        Said::Fitted(_) => print::no(output, 0, 0),
+        Said::Searched(found) => print::searched(output, found, x, g, next.n),
+        Said::Differenced => print::differenced(output, g, next.n),
+        Said::Refused(number, detail) => print::no(output, number, detail),
     }
 }
 
 // A reply of the engine, after which an answer is due.
 fn replied(s: State, a: Answered) -> State {
-    let written = shown(a);
+    let written = shown(s.output, a);
     let engine = a.next;
     let mut next = onward(s, 7);
     next.written = written;
@@ -273,9 +274,7 @@ fn fed_part(t: Talk, s: &[u8]) -> Talk {
     let mut state = t.state;
     let mut given = t.given;
     let mut at: usize = 0;
-    let mut left = s.len();
-    while left > 0 {
-        left -= 1;
+    for _ in 0..s.len() {
         let q = given::scanned(s, at, given);
         at = q.at;
         given = q.given;
@@ -296,7 +295,7 @@ fn fed_part(t: Talk, s: &[u8]) -> Talk {
 }
 
 // Before the first line.
-fn begun() -> State {
+fn begun(output: Stdout) -> State {
     let none = Words {
         ok: false,
         count: 0,
@@ -309,6 +308,7 @@ fn begun() -> State {
     };
     let engine = optim::blank();
     State {
+        output,
         due: 1,
         written: true,
         number: 1,
@@ -320,57 +320,52 @@ fn begun() -> State {
     }
 }
 
-// The last line has no line feed: an empty one is none.
-fn closed(t: Talk) {
+// The last line has no line feed: an empty one is none. Answers whether every reply was written.
+fn closed(t: Talk) -> bool {
     let given = t.given;
     if lines_options::begun(given.reader) {
         let last = turned(t.state, given);
-        if !last.written {
-            say_write_failed();
-        }
+        return last.written;
     }
+    true
 }
 
-fn say_read_failed() {
-    io::write_all(
-        STDERR_FILENO,
-        b"test_bare_jobs: a read of standard input failed\n",
-    );
+fn say_read_failed(rt: &impl Eprint) {
+    let _ = rt.eprintln("test_bare_jobs: a read of standard input failed");
 }
 
-fn say_write_failed() {
-    io::write_all(
-        STDERR_FILENO,
-        b"test_bare_jobs: a write to standard output failed\n",
-    );
+fn say_write_failed(rt: &impl Eprint) {
+    let _ = rt.eprintln("test_bare_jobs: a write to standard output failed");
 }
 
-fn main() {
-    let mut buf = io::large_buffer();
-    let state = begun();
+fn main(rt: HostRuntime) {
+    let mut buf = [0u8; 65536];
+    let state = begun(rt.stdout());
     let given = given::fresh(1);
     let mut t = Talk { state, given };
-    let mut turns = u64::MAX;
-    while turns > 0 {
-        turns -= 1;
-        let got = libc::read(STDIN_FILENO, &mut buf);
-        if got < 0 {
-            say_read_failed();
-            return;
-        }
-        if got == 0 {
-            closed(t);
-            return;
-        }
-        let n = io::count(got, &buf);
-        let q = fed_part(t, &buf[..n]);
-        t = q;
-        if !t.state.written {
-            say_write_failed();
-            return;
-        }
-        if t.state.due == 0 {
-            return;
+    for _ in 0..u64::MAX {
+        match rt.stdin().read(&mut buf) {
+            Err(_) => {
+                say_read_failed(&rt);
+                return;
+            }
+            Ok(0) => {
+                if !closed(t) {
+                    say_write_failed(&rt);
+                }
+                return;
+            }
+            Ok(n) => {
+                let q = fed_part(t, &buf[..n]);
+                t = q;
+                if !t.state.written {
+                    say_write_failed(&rt);
+                    return;
+                }
+                if t.state.due == 0 {
+                    return;
+                }
+            }
         }
     }
 }

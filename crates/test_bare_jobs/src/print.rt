@@ -1,37 +1,37 @@
 // What is printed: questions, refusals and bad lines as the fit program has them, and the outcomes of
 // searches and differences, which it has not. Each function answers whether all of it was written; a piece of a
 // line takes that of the piece before, behind which nothing is written where it was lost.
-use libc::STDOUT_FILENO;
 use protocol::{Found, Kind};
+use std::io::Stdout;
 
-fn part(out: &[u8], n: usize) -> bool {
+fn part(output: Stdout, out: &[u8], n: usize) -> bool {
     if n <= out.len() {
-        return io::write_all(STDOUT_FILENO, &out[..n]);
+        return output.write_all(&out[..n]).is_ok();
     }
     false
 }
 
 // The first n bytes of the buffer.
-fn line(out: &[u8; 512], n: usize) -> bool {
-    part(out, n)
+fn line(output: Stdout, out: &[u8; 512], n: usize) -> bool {
+    part(output, out, n)
 }
 
-pub fn bad(number: u64) -> bool {
+pub fn bad(output: Stdout, number: u64) -> bool {
     let mut out = [0u8; 512];
     let count = lines_print::put_bad(&mut out, number);
-    line(&out, count)
+    line(output, &out, count)
 }
 
-pub fn no(number: u64, detail: u64) -> bool {
+pub fn no(output: Stdout, number: u64, detail: u64) -> bool {
     let mut out = [0u8; 512];
     let count = lines_print::put_no(&mut out, number, detail);
-    line(&out, count)
+    line(output, &out, count)
 }
 
-pub fn ask(number: u64, kind: Kind, x: [f64; 16], n: usize) -> bool {
+pub fn ask(output: Stdout, number: u64, kind: Kind, x: [f64; 16], n: usize) -> bool {
     let mut out = [0u8; 512];
     let count = lines_print::put_ask(&mut out, number, kind, x, n);
-    line(&out, count)
+    line(output, &out, count)
 }
 
 fn glyph(d: u64) -> u8 {
@@ -44,72 +44,68 @@ fn glyph(d: u64) -> u8 {
     b'?'
 }
 
-fn text(written: bool, bytes: &[u8]) -> bool {
+fn text(output: Stdout, written: bool, bytes: &[u8]) -> bool {
     if written {
-        return io::write_all(STDOUT_FILENO, bytes);
+        return output.write_all(bytes).is_ok();
     }
     false
 }
 
-fn word(written: bool, bytes: &[u8; 17]) -> bool {
-    text(written, bytes)
+fn word(output: Stdout, written: bool, bytes: &[u8; 17]) -> bool {
+    text(output, written, bytes)
 }
 
 // A value's bits with a space before them.
-fn value(written: bool, v: f64) -> bool {
+fn value(output: Stdout, written: bool, v: f64) -> bool {
     let mut bytes = [32u8; 17];
     let mut rest = test_rows::bits_of(v);
-    let mut i: usize = 16;
-    while i > 0 {
+    for i in (1..17).rev() {
         bytes[i] = glyph(rest % 16);
         rest /= 16;
-        i -= 1;
     }
-    word(written, &bytes)
+    word(output, written, &bytes)
 }
 
 // The first n values.
-fn values(written: bool, x: [f64; 16], n: usize) -> bool {
+fn values(output: Stdout, written: bool, x: [f64; 16], n: usize) -> bool {
     if 16 < n {
         return written;
     }
     let mut done = written;
-    let mut i: usize = 0;
-    while i < n {
-        done = value(done, x[i]);
-        i += 1;
+    for i in 0..n {
+        done = value(output, done, x[i]);
     }
     done
 }
 
-fn count(written: bool, n: u64) -> bool {
-    if text(written, b" ") {
-        return io::print_decimal(STDOUT_FILENO, n);
+fn count(output: Stdout, written: bool, n: u64) -> bool {
+    if text(output, written, b" ") {
+        return output.print(n).is_ok();
     }
     false
 }
 
-fn success(b: bool) -> bool {
+fn success(output: Stdout, b: bool) -> bool {
     if b {
-        return text(true, b"searched yes");
+        return text(output, true, b"searched yes");
     }
-    text(true, b"searched no")
+    text(output, true, b"searched no")
 }
 
 // `searched`, success, step, f, the count of trials, the point, the gradient.
-pub fn searched(found: Found, x: [f64; 16], g: [f64; 16], n: usize) -> bool {
-    let head = success(found.success);
-    let step = value(head, found.step);
-    let f = value(step, found.f);
-    let trials = count(f, found.trials);
-    let point = values(trials, x, n);
-    let gradient = values(point, g, n);
-    text(gradient, b"\n")
+pub fn searched(output: Stdout, found: Found, x: [f64; 16], g: [f64; 16], n: usize) -> bool {
+    let head = success(output, found.success);
+    let step = value(output, head, found.step);
+    let f = value(output, step, found.f);
+    let trials = count(output, f, found.trials);
+    let point = values(output, trials, x, n);
+    let gradient = values(output, point, g, n);
+    text(output, gradient, b"\n")
 }
 
 // `differenced`, the gradient.
-pub fn differenced(g: [f64; 16], n: usize) -> bool {
-    let head = text(true, b"differenced");
-    let gradient = values(head, g, n);
-    text(gradient, b"\n")
+pub fn differenced(output: Stdout, g: [f64; 16], n: usize) -> bool {
+    let head = text(output, true, b"differenced");
+    let gradient = values(output, head, g, n);
+    text(output, gradient, b"\n")
 }

@@ -1,16 +1,18 @@
 // Holds the engine's `differences` and `answer` to a written dialogue whose questions and gradients are
 // the Rust's (tests/README.md says how it is made and what a row is). Writes how many rows there are,
 // how many differ, and the number of the first that does (0 for none). A row of another form differs.
+#![tactic(auto)]
+
 mod forge;
 mod line;
 mod same;
 
 ghost use Rattle.std.specs.Prelude.{◌≡◌, ◌≤◌, length};
 
-use libc::{STDERR_FILENO, STDIN_FILENO, STDOUT_FILENO};
 use line::Row;
 use optim::{Answered, Record};
 use protocol::{Kind, Said};
+use std::io::Read;
 use test_rows::Tally;
 
 // The count so far, the record that was returned last, and the line as far as it is read.
@@ -78,13 +80,11 @@ fn list_agrees(v: [f64; 16], m: usize, l: Row, from: usize) -> bool {
     if 16 < m {
         return false;
     }
-    let mut i: usize = 0;
-    while i < m {
+    for i in 0..m {
         let expected = test_rows::value(line::word(l, from, i));
         if test_rows::bits_of(v[i]) != test_rows::bits_of(expected) {
             return false;
         }
-        i += 1;
     }
     true
 }
@@ -156,10 +156,8 @@ fn operands(l: Row) -> [f64; 32]
     ensures { length result ≡ 32 }
 {
     let mut out = [0.0; 32];
-    let mut i: usize = 0;
-    while i < 32 {
+    for i in 0..32 {
         out[i] = test_rows::value(line::word(l, 4, i));
-        i += 1;
     }
     out
 }
@@ -249,11 +247,9 @@ fn fed(s: State, b: u8) -> State {
 
 fn part(s: State, bytes: &[u8]) -> State {
     let mut state = s;
-    let mut i: usize = 0;
-    while i < bytes.len() {
-        let next = fed(state, bytes[i]);
+    for b in bytes {
+        let next = fed(state, *b);
         state = next;
-        i += 1;
     }
     state
 }
@@ -278,46 +274,40 @@ fn begun() -> State {
     }
 }
 
-fn say_read_failed() {
-    io::write_all(
-        STDERR_FILENO,
-        b"test_differences: a read of standard input failed\n",
-    );
+fn say_read_failed(rt: &impl Eprint) {
+    let _ = rt.eprintln("test_differences: a read of standard input failed");
 }
 
-fn say_write_failed() {
-    io::write_all(
-        STDERR_FILENO,
-        b"test_differences: a write to standard output failed\n",
-    );
+fn say_write_failed(rt: &impl Eprint) {
+    let _ = rt.eprintln("test_differences: a write to standard output failed");
 }
 
 // Writes the line of the end.
-fn report(t: Tally) {
+fn report(rt: &(impl Print + Eprint), t: Tally) {
     let mut out = [0u8; 512];
     let n = test_rows::put_report(&mut out, t);
-    if !io::write_all(STDOUT_FILENO, &out[..n]) {
-        say_write_failed();
+    if rt.write_all(&out[..n]).is_err() {
+        say_write_failed(rt);
     }
 }
 
-fn main() {
-    let mut buf = io::buffer();
+fn main(rt: HostRuntime) {
+    let mut buf = [0u8; 4096];
     let mut state = begun();
-    let mut turns = u64::MAX;
-    while turns > 0 {
-        turns -= 1;
-        let got = libc::read(STDIN_FILENO, &mut buf);
-        if got < 0 {
-            say_read_failed();
-            return;
+    for _ in 0..u64::MAX {
+        match rt.stdin().read(&mut buf) {
+            Err(_) => {
+                say_read_failed(&rt);
+                return;
+            }
+            Ok(0) => {
+                report(&rt, closed(state));
+                return;
+            }
+            Ok(n) => {
+                let next = part(state, &buf[..n]);
+                state = next;
+            }
         }
-        if got == 0 {
-            report(closed(state));
-            return;
-        }
-        let n = io::count(got, &buf);
-        let next = part(state, &buf[..n]);
-        state = next;
     }
 }

@@ -14,12 +14,10 @@ fn number(a: f64, b: f64) -> bool {
 }
 
 fn list(a: [f64; 16], b: [f64; 16]) -> bool {
-    let mut i: usize = 0;
-    while i < 16 {
+    for i in 0..16 {
         if test_rows::bits_of(a[i]) != test_rows::bits_of(b[i]) {
             return false;
         }
-        i += 1;
     }
     true
 }
@@ -116,14 +114,12 @@ fn vertex(a: Vertex, b: Vertex) -> bool {
 }
 
 fn vertices(a: [Vertex; 17], b: [Vertex; 17]) -> bool {
-    let mut i: usize = 0;
-    while i < 17 {
+    for i in 0..17 {
         let u = a[i];
         let w = b[i];
         if !vertex(u, w) {
             return false;
         }
-        i += 1;
     }
     true
 }
@@ -273,12 +269,10 @@ fn descent(a: Descent, b: Descent) -> bool {
 }
 
 fn matrix(a: [f64; 256], b: [f64; 256]) -> bool {
-    let mut i: usize = 0;
-    while i < 256 {
+    for i in 0..256 {
         if test_rows::bits_of(a[i]) != test_rows::bits_of(b[i]) {
             return false;
         }
-        i += 1;
     }
     true
 }
@@ -307,14 +301,12 @@ fn pair(a: Pair, b: Pair) -> bool {
 }
 
 fn pairs(a: [Pair; 16], b: [Pair; 16]) -> bool {
-    let mut i: usize = 0;
-    while i < 16 {
+    for i in 0..16 {
         let p = a[i];
         let q = b[i];
         if !pair(p, q) {
             return false;
         }
-        i += 1;
     }
     true
 }

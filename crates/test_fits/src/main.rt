@@ -2,10 +2,12 @@
 // (tests/README.md says how it is made). A row is a line given behind `< `, a line due behind `> `, or
 // empty, which ends a fit. Writes how many rows there are, how many differ, and the number of the first
 // that does (0 for none). A row of another form differs.
+#![tactic(auto)]
+
 use fit_dialogue::State;
-use libc::{STDERR_FILENO, STDIN_FILENO, STDOUT_FILENO};
 use lines_options::Reader;
 use lines_reader::LINE1;
+use std::io::Read;
 use test_rows::Tally;
 
 // The count so far; the fit's state and the line given as far as it has come; the bytes printed last,
@@ -174,11 +176,9 @@ fn fed(s: Replay, b: u8) -> Replay {
 
 fn part(s: Replay, bytes: &[u8]) -> Replay {
     let mut state = s;
-    let mut i: usize = 0;
-    while i < bytes.len() {
-        let next = fed(state, bytes[i]);
+    for b in bytes {
+        let next = fed(state, *b);
         state = next;
-        i += 1;
     }
     state
 }
@@ -198,46 +198,40 @@ fn begun() -> Replay {
     fresh(test_rows::none())
 }
 
-fn say_read_failed() {
-    io::write_all(
-        STDERR_FILENO,
-        b"test_fits: a read of standard input failed\n",
-    );
+fn say_read_failed(rt: &impl Eprint) {
+    let _ = rt.eprintln("test_fits: a read of standard input failed");
 }
 
-fn say_write_failed() {
-    io::write_all(
-        STDERR_FILENO,
-        b"test_fits: a write to standard output failed\n",
-    );
+fn say_write_failed(rt: &impl Eprint) {
+    let _ = rt.eprintln("test_fits: a write to standard output failed");
 }
 
 // Writes the line of the end.
-fn report(t: Tally) {
+fn report(rt: &(impl Print + Eprint), t: Tally) {
     let mut out = [0u8; 512];
     let n = test_rows::put_report(&mut out, t);
-    if !io::write_all(STDOUT_FILENO, &out[..n]) {
-        say_write_failed();
+    if rt.write_all(&out[..n]).is_err() {
+        say_write_failed(rt);
     }
 }
 
-fn main() {
-    let mut buf = io::buffer();
+fn main(rt: HostRuntime) {
+    let mut buf = [0u8; 4096];
     let mut state = begun();
-    let mut turns = u64::MAX;
-    while turns > 0 {
-        turns -= 1;
-        let got = libc::read(STDIN_FILENO, &mut buf);
-        if got < 0 {
-            say_read_failed();
-            return;
+    for _ in 0..u64::MAX {
+        match rt.stdin().read(&mut buf) {
+            Err(_) => {
+                say_read_failed(&rt);
+                return;
+            }
+            Ok(0) => {
+                report(&rt, closed(state));
+                return;
+            }
+            Ok(n) => {
+                let next = part(state, &buf[..n]);
+                state = next;
+            }
         }
-        if got == 0 {
-            report(closed(state));
-            return;
-        }
-        let n = io::count(got, &buf);
-        let next = part(state, &buf[..n]);
-        state = next;
     }
 }

@@ -2,9 +2,11 @@
 // A row has 53 bytes: an operation's letter, two operands and Rust's result, as 16 hexadecimal digits
 // each, with one space between and a line feed behind. Writes how many rows there are, how many
 // differ, and the number of the first that does (0 for none). A row of another form differs.
+#![tactic(auto)]
+
 ghost use Rattle.std.specs.Prelude.{◌+◌, ◌≤◌};
 
-use libc::{STDERR_FILENO, STDIN_FILENO, STDOUT_FILENO};
+use std::io::Read;
 use test_rows::Tally;
 
 // The number that 16 digits spell, and whether each is a digit.
@@ -19,14 +21,12 @@ fn read_word(s: &[u8; 53], at: usize) -> Word
 {
     let mut ok = true;
     let mut bits: u64 = 0;
-    let mut i: usize = 0;
-    while i < 16 {
+    for i in 0..16 {
         let d = test_rows::digit(s[at + i]);
         if 15 < d {
             ok = false;
         }
         bits = (bits << 4) | (d % 16);
-        i += 1;
     }
     Word { ok, bits }
 }
@@ -153,11 +153,9 @@ fn fed(s: Rows, b: u8) -> Rows {
 
 fn part(s: Rows, bytes: &[u8]) -> Rows {
     let mut state = s;
-    let mut i: usize = 0;
-    while i < bytes.len() {
-        let next = fed(state, bytes[i]);
+    for b in bytes {
+        let next = fed(state, *b);
         state = next;
-        i += 1;
     }
     state
 }
@@ -171,46 +169,40 @@ fn closed(s: Rows) -> Tally {
     tally
 }
 
-fn say_read_failed() {
-    io::write_all(
-        STDERR_FILENO,
-        b"test_float: a read of standard input failed\n",
-    );
+fn say_read_failed(rt: &impl Eprint) {
+    let _ = rt.eprintln("test_float: a read of standard input failed");
 }
 
-fn say_write_failed() {
-    io::write_all(
-        STDERR_FILENO,
-        b"test_float: a write to standard output failed\n",
-    );
+fn say_write_failed(rt: &impl Eprint) {
+    let _ = rt.eprintln("test_float: a write to standard output failed");
 }
 
 // Writes the line of the end.
-fn report(t: Tally) {
+fn report(rt: &(impl Print + Eprint), t: Tally) {
     let mut out = [0u8; 512];
     let n = test_rows::put_report(&mut out, t);
-    if !io::write_all(STDOUT_FILENO, &out[..n]) {
-        say_write_failed();
+    if rt.write_all(&out[..n]).is_err() {
+        say_write_failed(rt);
     }
 }
 
-fn main() {
-    let mut buf = io::large_buffer();
+fn main(rt: HostRuntime) {
+    let mut buf = [0u8; 65536];
     let mut state = begun();
-    let mut turns = u64::MAX;
-    while turns > 0 {
-        turns -= 1;
-        let got = libc::read(STDIN_FILENO, &mut buf);
-        if got < 0 {
-            say_read_failed();
-            return;
+    for _ in 0..u64::MAX {
+        match rt.stdin().read(&mut buf) {
+            Err(_) => {
+                say_read_failed(&rt);
+                return;
+            }
+            Ok(0) => {
+                report(&rt, closed(state));
+                return;
+            }
+            Ok(n) => {
+                let next = part(state, &buf[..n]);
+                state = next;
+            }
         }
-        if got == 0 {
-            report(closed(state));
-            return;
-        }
-        let n = io::count(got, &buf);
-        let next = part(state, &buf[..n]);
-        state = next;
     }
 }

@@ -1,12 +1,13 @@
--- `fit::fed_part` meets its contract: what is to be passed from here on comes to where the part comes to. Assumes nothing.
-use Prim.Native.Nat.{◌-◌}
-use mathlib.Core.Path.{◌≡◌}
-use lib.ListN.{length, drop}
-use Rattle.fit_dialogue.specs.Program.{passedOf}
+-- `fit::fed_part` ends, since each turn passes a byte at least. What was printed, and what is passed from here on, is what the part brings. Assumes nothing.
+use Rattle.std.proofs.Common.{◌-◌, ◌≡◌, ℕ, List, length, drop}
+use Rattle.fit_dialogue.specs.Program.{andThen, passedOf}
+use Rattle.fit.specs.Output.{Wrote}
 use Rattle.fit.proofs.fed_part.Given as goal
 
 abbrev pub invariant-loop-at : goal.invariant-loop-at
-invariant-loop-at l = (passedOf l.place (drop l.at l.s)).1 ≡ (passedOf l.initial.place l.s).1
+invariant-loop-at g l = (text : List ℕ)
+    × (andThen text (passedOf l.place (drop l.at l.s)) ≡ passedOf l.initial.place l.s)
+    × Wrote l.written (g.W.Write.contents l.initial.output) (g.W.Write.contents l.output) text
 
 abbrev pub decreases-loop-at : goal.decreases-loop-at
-decreases-loop-at l = length l.s - l.at
+decreases-loop-at g l = length l.s - l.at

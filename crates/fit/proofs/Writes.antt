@@ -1,0 +1,39 @@
+-- What one write more, or one text more, adds to a text that is being written. Assumes nothing.
+use Rattle.std.proofs.Common.{◌≡◌, ℕ, ◌-◌, Bool, true, false, List, Option, ◌++◌, length, take, drop, refl, sym, ap, ◌∙◌, append_assoc, take-append-drop}
+use mathlib.Core.Bool.{true≢false}
+use Rattle.std.proofs.lemmas.List.{take_rest}
+use Rattle.std.proofs.KnownBytes.{Appends-trans, Appends-kept}
+use Rattle.std.specs.Io.KnownBytes.{Appends, Keeps}
+use Rattle.fit.specs.Output.{Wrote}
+
+-- a write took n bytes of those that were left
+pub further : (a b c : Option (List ℕ)) (all done rest : List ℕ) (n : ℕ) → all ≡ done ++ rest → Appends a b done → Appends b c (take n rest)
+    → (all ≡ (done ++ take n rest) ++ take (length rest - n) (drop n rest)) × Appends a c (done ++ take n rest)
+further a b c all done rest n split before now = (
+  split
+      ∙ ap (λ l. done ++ l) (sym (take-append-drop n rest))
+      ∙ sym (append_assoc done (take n rest) (drop n rest))
+      ∙ ap (λ l. (done ++ take n rest) ++ l) (sym (take_rest rest n)),
+  Appends-trans a b c done (take n rest) before now,
+)
+
+-- a front of a text is one of a longer text
+pub front-longer : (w : Bool) (a b : Option (List ℕ)) (t more : List ℕ) → Wrote w a b t → Wrote false a b (t ++ more)
+front-longer true a b t more h = (t, more, refl, h)
+front-longer false a b t more (front, rest, split, h) = (front, rest ++ more, ap (λ l. l ++ more) split ∙ append_assoc front rest more, h)
+
+-- a text behind one that was written whole
+pub then-text : (w : Bool) (a b c : Option (List ℕ)) (t u : List ℕ) → Appends a b t → Wrote w b c u → Wrote w a c (t ++ u)
+then-text true a b c t u h k = Appends-trans a b c t u h k
+then-text false a b c t u h (front, rest, split, k) = (t ++ front, rest, ap (λ l. t ++ l) split ∙ sym (append_assoc t front rest), Appends-trans a b c t front h k)
+
+-- nothing is written once a text was lost
+pub then-kept : (a b c : Option (List ℕ)) (t : List ℕ) → Wrote false a b t → Keeps b c → Wrote false a c t
+then-kept a b c t (front, rest, split, h) k = (front, rest, split, Appends-kept a b c front h k)
+
+-- a text more: as line_fed writes it
+pub then-line : (w v : Bool) (a b c : Option (List ℕ)) (t u : List ℕ) → Wrote w a b t → (w ≡ false → v ≡ false) → (w ≡ false → Keeps b c) → (w ≡ true → Wrote v b c u)
+    → Wrote v a c (t ++ u)
+then-line true v a b c t u h lost kept now = then-text v a b c t u h (now refl)
+then-line false true a b c t u h lost kept now = absurd (true≢false (lost refl))
+then-line false false a b c t u h lost kept now = then-kept a b c (t ++ u) (front-longer false a b t u h) (kept refl)
