@@ -28,7 +28,7 @@ def twice(repository):
 
 def exists(path):
     path = path.rstrip(".")
-    if "/out/" in path:
+    if re.search(r"/out(/|$)", path):
         return True
     return bool(FOR_MANY.search(path)) or (any(pathlib.Path().glob(path.rstrip("/"))) if "*" in path else pathlib.Path(path).exists())
 
@@ -62,7 +62,7 @@ def unknown(repository):
         lines = repository.lines(document)
         for at, line in enumerate(lines, 1):
             out += [f"{document}:{at}: {path} does not exist" for path in PATH.findall(line) if not exists(path)]
-            built = BUILT.findall(re.sub(r"\.(?=\W|$)", " ", line))
+            built = [] if FOR_MANY.search(line) else BUILT.findall(re.sub(r"\.(?=\W|$)", " ", line))
             out += [f"{document}:{at}: {what}" for crate, file in built for what in unbuilt(crate, file, repository)]
         for at, verb, words in commands(lines):
             out += [f"{document}:{at}: {what}" for what in wrong_command(verb, words, crates)]
