@@ -119,8 +119,10 @@ def renamed(crate, pairs, words):
     own = unchanged(crate).get(function, set())
     if not function or not answers.is_file() or any(it == goal if is_whole else it.startswith(goal) for it in own):
         return []
-    left = edited(crate, pairs).get(function, set())
-    return [name for name in ANSWER.findall(answers.read_text()) if name.split("-clause-")[0] not in left]
+    left, text = edited(crate, pairs).get(function, set()), answers.read_text()
+    for file, old, new in pairs:
+        text = text.replace(old, new, 1) if pathlib.Path("crates", crate, file) == answers else text
+    return [name for name in ANSWER.findall(text) if name.split("-clause-")[0] not in left]
 
 
 def unrefused(label, pairs, said):
