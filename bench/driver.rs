@@ -1,4 +1,4 @@
-// The Rust's optimizers as a program over a pipe: it reads the lines that target/bin/fit reads and prints the lines that it
+// The Rust's optimizers as a program over a pipe: it reads the lines that crates/fit/out/fit reads and prints the lines that it
 // prints, for the benchmark. What it reads is taken to be of its form.
 use std::fmt::Write as _;
 use std::io::{stdin, stdout, BufRead, StdinLock, StdoutLock, Write as _};

@@ -20,7 +20,7 @@ in_process() { # JOB GRADIENTS N
 }
 over_pipe() { # JOB GRADIENTS N
     target/bench lines "$@" >target/lines.txt
-    echo "$(piped target/bin/fit) $(piped target/bench_driver)" | awk '{ print $1, $2 / $1, $4 / $1 }'
+    echo "$(piped crates/fit/out/fit) $(piped target/bench_driver)" | awk '{ print $1, $2 / $1, $4 / $1 }'
 }
 for way in in_process over_pipe; do
     echo "# $way"

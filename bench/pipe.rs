@@ -1,4 +1,4 @@
-// The fits of the benchmark over a pipe: target/bin/fit beside the Rust's driver, each fed the same answers by one process.
+// The fits of the benchmark over a pipe: crates/fit/out/fit beside the Rust's driver, each fed the same answers by one process.
 use crate::chain;
 use crate::sides::{asked, Row, JOBS};
 use std::io::{BufRead, BufReader, Write};

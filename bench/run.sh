@@ -6,10 +6,10 @@ folder=$1
 rounds=${2:-50}
 cc=${CC:-cc}
 rust="rustc -O --edition 2021 --extern tsecon_optim=target/libtsecon_optim.rlib"
-archive=target/staticlib/libbench_rosenbrock.a
+archive=crates/bench_rosenbrock/out/libbench_rosenbrock.a
 mkdir -p target
-rt check fit >target/bench.log
-rt staticlib bench_rosenbrock >>target/bench.log
+(cd crates/fit && rt run </dev/null) >target/bench.log 2>&1
+tests/archive.py bench_rosenbrock >>target/bench.log
 tests/optim_crate.sh "$folder"
 $rust bench/main.rs -C link-arg=$archive -o target/bench
 $rust bench/driver.rs -o target/bench_driver
@@ -40,7 +40,7 @@ target/bench "$rounds"
 # Both ends on one core: to wake another takes longer than all else, and as long as it likes.
 pinned=$(command -v taskset >/dev/null && echo "taskset -c 0" || true)
 echo "# over a pipe, on one core: ns a question, all that passes"
-$pinned target/bench $((rounds / 10 + 1)) target/bin/fit target/bench_driver
+$pinned target/bench $((rounds / 10 + 1)) crates/fit/out/fit target/bench_driver
 echo "# bytes copied a question, and bytes of stack"
 target/bench_memory
 echo "# other libraries: ns of the objective and of own work, an evaluation"

@@ -1,7 +1,8 @@
 // locate.c: the emitter of survey.txt, located from C by bfgs with gradients. The model is that of examples/README.md.
 //
-//     rt staticlib c_fit
-//     cc -Iinclude examples/locate.c target/staticlib/libc_fit.a -lm -o target/locate
+//     tests/archive.py c_fit
+//     mkdir -p target
+//     cc -Iinclude examples/locate.c crates/c_fit/out/libc_fit.a -lm -o target/locate
 //     target/locate
 #include <math.h>
 #include <stdio.h>

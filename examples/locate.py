@@ -2,9 +2,9 @@
 """locate.py [JOB]: the tablet of the example. It fits an emitter's position and antenna factor, and draws the way there.
 
 It runs the fit program and the analyser as two processes, passes the questions of one to the other and the answers back, prints
-the end in plain numbers and writes a picture. JOB is simplex, bfgs or lbfgs. It may be run from any folder: the fit program and the
-picture are those of target/ in the repository that it stands in. Wrong use gives one line and status 2, a fit that has no end one
-line and status 1.
+the end in plain numbers and writes a picture. JOB is simplex, bfgs or lbfgs. It may be run from any folder: the fit program is
+crates/fit/out/fit of the repository that it stands in, and the picture goes into target/ there. Wrong use gives one line and
+status 2, a fit that has no end one line and status 1.
 """
 import argparse
 import math
@@ -20,6 +20,7 @@ import picture
 from analyser import Wrong
 
 HERE = pathlib.Path(os.path.relpath(pathlib.Path(__file__).resolve().parent))
+FIT = HERE.parent / "crates/fit/out/fit"
 TARGET = HERE.parent / "target"
 JOBS = ("simplex", "bfgs", "lbfgs")
 
@@ -176,7 +177,7 @@ def arguments():
     parser.add_argument("--loss", type=float, default=0.0, metavar="P", help="lines lost, and repeated, at this rate: 0 to 0.5")
     parser.add_argument("--seed", type=int, default=1, metavar="S", help="which lines are lost and repeated")
     parser.add_argument("--survey", default=HERE / "survey.txt", metavar="FILE", help="the readings (examples/survey.txt)")
-    parser.add_argument("--program", default=TARGET / "bin/fit", metavar="FILE", help="the fit program (target/bin/fit)")
+    parser.add_argument("--program", default=FIT, metavar="FILE", help="the fit program (crates/fit/out/fit)")
     picture_to = parser.add_mutually_exclusive_group()
     picture_to.add_argument("--svg", metavar="FILE", help="where the picture is written (target/JOB.svg)")
     picture_to.add_argument("--check", action="store_true", help="write none, but compare it with examples/JOB.svg")
@@ -184,7 +185,7 @@ def arguments():
     if not 0.0 <= given.loss <= 0.5:
         raise Wrong(f"--loss is 0 to 0.5, not {given.loss}")
     if not pathlib.Path(given.program).is_file():
-        raise Wrong(f"{given.program}: no such program; `rt check fit` builds it")
+        raise Wrong(f"{given.program}: no such program; `rt run` in crates/fit builds it")
     return given
 
 
@@ -193,6 +194,8 @@ def put(drawing, given):
     path = HERE / f"{given.job}.svg" if given.check else pathlib.Path(given.svg or TARGET / f"{given.job}.svg")
     try:
         if not given.check:
+            if not given.svg:
+                TARGET.mkdir(exist_ok=True)
             path.write_text(drawing, encoding="utf-8")
         elif path.read_bytes() != drawing.encode("utf-8"):
             raise Failed(f"{path}: the picture drawn now differs from it")

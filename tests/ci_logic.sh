@@ -13,9 +13,17 @@ for name in ci_logic.sh c/run.sh; do
     printf '#!/bin/sh\necho "ran %s"\ncase " $WRONG " in *" %s "*) exit 3 ;; esac\n' "$name" "$name" >"$room/repository/tests/$name"
     chmod +x "$room/repository/tests/$name"
 done
+# One that is given a file, which is a log of rt's, prints its lines.
 cat >"$room/bin/python3" <<'STUB'
 #!/bin/sh
-name=$*
+name=$1
+shift
+for word; do
+    case $word in
+    /*) while IFS= read -r line; do echo "the log has $line"; done <"$word"; name="$name LOG" ;;
+    *) name="$name $word" ;;
+    esac
+done
 echo "ran ${name#tests/}"
 case $WRONG in *"[${name#tests/}]"*) exit 4 ;; esac
 [ -z "$(cat)" ]
@@ -23,16 +31,17 @@ STUB
 # The stub of rt: SAYS is what `rt ci` prints, STATUS its status; a status of 9 is a death by that signal.
 cat >"$room/bin/rt" <<'STUB'
 #!/bin/sh
-case $1 in
-staticlib) case " $WRONG " in *" staticlib "*) exit 1 ;; esac; exit 0 ;;
-ci) echo "rt: jobs $RT_JOBS"; cat >/dev/null; printf "$SAYS"; [ "$STATUS" != 9 ] || kill -9 $$; exit "$STATUS" ;;
-esac
+[ "$*" = ci ] || { echo "rt $*: not the gate's command"; exit 2; }
+cat >/dev/null
+printf "$SAYS"
+[ "$STATUS" != 9 ] || kill -9 $$
+exit "$STATUS"
 STUB
 chmod +x "$room/bin/rt" "$room/bin/python3"
 ln -s "$(command -v true)" "$room/bin/cc"
 
 # The tools without python3, a C compiler and timeout.
-for tool in bash sh cat chmod dirname mktemp nproc rm; do ln -s "$(command -v $tool)" "$room/bare/$tool"; done
+for tool in bash sh cat chmod dirname mktemp rm tee; do ln -s "$(command -v $tool)" "$room/bare/$tool"; done
 ln -s "$room/bin/rt" "$room/bare/rt"
 
 # due CASE LAST STATUS LINE..: runs the gate, and compares its last line and its status, and whether each LINE is there (or, behind
@@ -63,15 +72,16 @@ held() { # TEXT LINE..
 
 PASSES='rt: ok\n7 passed, 0 failed\n' FAILS='rt: FAILED: a b\n5 passed, 2 failed\n'
 WRONG='' SAYS=$PASSES STATUS=0
-cores=$(nproc)
-SCRIPTS=(crates.py "crates.py --self-test" "must_fail.py --edits" "claims.py --self-test" claims.py must_fail.py guide.py examples.py fit_input.py)
-due "all pass" "7 passed, 0 failed" 0 "rt: jobs $((cores < 4 ? 2 * cores : 8))" "rt: ok" "ran ci_logic.sh" "ran c/run.sh" "${SCRIPTS[@]/#/ran }"
+SCRIPTS=(crates.py "crates.py --self-test" "must_fail.py --edits" "must_fail.py --self-test" "claims.py --self-test")
+SCRIPTS+=(claims.py "must_fail.py LOG" guide.py examples.py fit_input.py "archive.py c_api c_fit")
+due "all pass" "7 passed, 0 failed" 0 "rt: ok" "ran ci_logic.sh" "ran c/run.sh" "${SCRIPTS[@]/#/ran }"
+due "the log of rt ci" "7 passed, 0 failed" 0 "the log has rt: ok" "the log has 7 passed, 0 failed" "---- tests/must_fail.py log"
 SAYS='7 passed, 0 failed' due "no line feed at the end" "7 passed, 0 failed" 0
 
 for name in "${SCRIPTS[@]}"; do
     WRONG="[$name]" due "$name fails" "7 passed, 1 failed" 1
 done
-for name in ci_logic.sh c/run.sh staticlib; do
+for name in ci_logic.sh c/run.sh; do
     WRONG=$name due "$name fails" "7 passed, 1 failed" 1
 done
 WRONG="[crates.py] [guide.py] c/run.sh" due "three scripts fail" "7 passed, 3 failed" 1 "ran fit_input.py"

@@ -1,11 +1,10 @@
 #!/usr/bin/env python3
 """crates.py [--write | --draw | --self-test]: whether crates.txt is true of crates/, and docs/crates.svg of crates.txt. Run it anywhere.
 
-crates.txt lists for a crate what it names in src/, specs/ and proofs/, and what declares a type that it reaches through a field;
-a program that uses io lists libc too. Callees stand before callers, and a crate in the room that its prefix names. Without an
-argument it fails (exit status 1) where that is not so, or where the drawing is not the one of crates.txt. --write writes
-crates.txt anew, with the rooms that it has, and --draw the drawing. --self-test breaks a copy of crates.txt in each way, and
-fails where the fault is not seen.
+crates.txt lists for a crate what it names in src/, specs/ and proofs/, and what declares a type that it reaches through a field.
+Callees stand before callers, and a crate in the room that its prefix names. Without an argument it fails (exit status 1) where
+that is not so, or where the drawing is not the one of crates.txt. --write writes crates.txt anew, with the rooms that it has, and
+--draw the drawing. --self-test breaks a copy of crates.txt in each way, and fails where the fault is not seen.
 """
 import os
 import pathlib
@@ -30,7 +29,8 @@ WAYS = [
     (r"^(float:)\n(vector: .*)\n", r"\2\n\1\n", "vector stands before float"),
     (r"^(vector: .*)\n(# protocol: .*)\n", r"\2\n\1\n", "vector does not belong into the room protocol"),
     (r"^(# values: ).*$", r"\1other words", "is not the drawing of crates.txt"),
-    (r" io libc$", " io", "does not list libc"),
+    (r"^float:$", "float: os", "float lists os, and neither names it"),
+    (r"^(vector): float$", r"\1 staticlib: vector", "vector does not list float"),
 ]
 
 

@@ -1,5 +1,5 @@
 #!/usr/bin/env python3
-"""examples.py: whether examples/ does what examples/README.md says. Run it anywhere, after `rt check fit`.
+"""examples.py: whether examples/ does what examples/README.md says. Run it anywhere, once crates/fit/out/fit is built.
 
 It prints a line for each thing that holds, and stops with status 1 at the first that does not.
 """
@@ -33,7 +33,7 @@ WRONG = (
     ["--program", "README.md"],
     ["--survey", "none.txt"],
     ["--survey", "README.md"],
-    ["--survey", "target/bin/fit"],
+    ["--survey", "crates/fit/out/fit"],
     ["--loss", "0.6"],
     ["--loss", "nan"],
     ["--loss", "x"],

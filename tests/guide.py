@@ -1,8 +1,9 @@
 #!/usr/bin/env python3
-"""guide.py [--jobs] [GUIDE]: whether docs/GUIDE.md is true of the programs. Run it at the repository's root, after `rt check`.
+"""guide.py [--jobs] [GUIDE]: whether docs/GUIDE.md is true of the programs. Run it at the repository's root, once the
+programs are built.
 
 It fails (exit status 1) where
-- a dialogue, a block fenced as `fit` or `test_bare_jobs`, is not what that program of target/bin prints: lines given
+- a dialogue, a block fenced as `fit` or `test_bare_jobs`, is not what crates/NAME/out/NAME prints: lines given
   behind `< `, lines due behind `> ` and after the line that brings them, remarks behind `# `, an empty line between two;
 - a command behind `$ ` in a block fenced as `console` does not print the lines below it;
 - a word in a cell of a table is not the number in the next cell, or a word of a dialogue stands in no table;
@@ -38,6 +39,10 @@ JOBS = [
     ("bfgs, gradients 1, rounded", "bfgs", (GRADIENT, "- - 30 0 1"), True),
     ("bfgs, gradients 0, rounded", "bfgs", (GRADIENT, "- - 30 0 0"), True),
 ]
+
+
+def binary(program):
+    return f"crates/{program}/out/{program}"
 
 
 def word(value):
@@ -85,7 +90,7 @@ def dialogue(program, start, lines):
     given, due = "", ""
     for number, line in enumerate(lines + [""], start):
         if not line.startswith(("> ", "# ")) and given + due:
-            came = output([f"target/bin/{program}"], given)
+            came = output([binary(program)], given)
             if came != due:
                 return [f"{number - 1}: due {due.splitlines()[-1:]}, came {came.splitlines()[-1:]}"]
         if not line:
@@ -154,7 +159,7 @@ def slopes(x):
 
 def fitted(job, options, rounded):
     """The end line of a fit of the misfit, in fields, and how many questions it put."""
-    with subprocess.Popen(["target/bin/fit"], stdin=subprocess.PIPE, stdout=subprocess.PIPE, text=True, bufsize=1) as talk:
+    with subprocess.Popen([binary("fit")], stdin=subprocess.PIPE, stdout=subprocess.PIPE, text=True, bufsize=1) as talk:
         talk.stdin.write(f"{job} 3\n{words(options[0])} {options[1]}\n{words(START)}\n")
         asked = 0
         while True:
@@ -177,9 +182,9 @@ def jobs():
 
 
 def main():
-    missing = [p for p in PROGRAMS if not pathlib.Path(f"target/bin/{p}").exists()]
+    missing = [p for p in PROGRAMS if not pathlib.Path(binary(p)).exists()]
     if missing:
-        print(f"target/bin/{missing[0]} is missing: rt check {' '.join(PROGRAMS)}", file=sys.stderr)
+        print(f"{binary(missing[0])} is missing: rt run in crates/{missing[0]} builds it", file=sys.stderr)
         return 1
     given = [a for a in sys.argv[1:] if a != "--jobs"]
     guide = pathlib.Path(given[0] if given else "docs/GUIDE.md")

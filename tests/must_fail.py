@@ -1,20 +1,48 @@
 #!/usr/bin/env python3
-"""must_fail.py [--table | --edits]: what the must-fail runs of `rt ci` or `rt must-fail` left in target/must-fail/.
+"""must_fail.py LOG | --edits | --table | --self-test: the must-fail edits, and what `rt ci` or `rt must-fail` said of each.
 
-Run it at the repository's root after either; with --edits before: it then reads no log, and fails where a text that an edit is to
-replace does not stand once in its file. It fails (exit status 1) where an edit has no log, where a log is of no edit,
-where an edit was not refused by the prover, or where it was refused for its shape alone: its first error then says that a
-module "has no `Need-..` that can be named from here", or that a record of the function's places has no such field, so that the
-proof file only no longer fits the code, and nothing is shown of the contract. With --table it prints the edits as a table, which
-docs/MUST-FAIL.md holds; without, it also fails where that table is not the one in docs/MUST-FAIL.md.
+Run it at the repository's root. LOG is a file with what either command printed. It fails (exit status 1) where an edit has no line
+there, where a line is of no edit, and where an edit
+- was not refused, or not tried, or is a BAD EDIT, which could not be applied, compiled or read (`rt ci` passes these);
+- was refused by a limit of the prover alone, which gave no verdict then;
+- was refused for its shape alone, so that nothing is shown of the contract: the proof names what the edit took away, and nothing
+  else is wrong but that a goal has another name now, under which it has no answer. The first rt says itself. The second is
+  looked up where the first thing that is not proved is a goal that the function does not have without the edit: `rt names` lists
+  the goals of the function with the edit in it, and an answer of its proof must then be to none of them.
+--edits needs no log: it fails where a text that an edit is to replace does not stand once in its file. --table prints the edits as
+a table, which docs/MUST-FAIL.md holds; with a log and with --edits it also fails where that table is not the one in
+docs/MUST-FAIL.md. --self-test gives it words for each of these ways, and fails where a fault is not seen.
 """
+import functools
+import json
 import pathlib
 import re
+import shutil
+import subprocess
 import sys
+import tempfile
 
-TARGET = pathlib.Path("target/must-fail")
 TABLE = pathlib.Path("docs/MUST-FAIL.md")
-SHAPE = re.compile(r"has no `Need-[^`]*` that can be named from here|^`[^`]+`: record `[^`]+\.Lts\.[^`]+`( has no field|$)")
+PARTS = ("src", "specs", "proofs")
+# What rt says of an edit, and of a file that it takes for none.
+SAID = re.compile(r"rt: must-fail (\w+)/(\S+)\.edit: (.*)")
+STRAY = re.compile(r"rt: (\S*must-fail/\S+): (BAD EDIT.*)")
+REFUSED = "refused, as it must be"
+# Where a refusal begins with a goal that nothing proves: its file, its line, and its name, of which rt may cut the end off.
+OPEN = re.compile(r": note: (?:\./)?src/([\w/]+)\.rt:(\d+):\d+: it is not proved .*?\(`([^`\s]+)(`\)|`?$)")
+FUNCTION = re.compile(r'^ *(?:pub )?(?:extern "C" )?fn (\w+)')
+ANSWER = re.compile(r"(?m)^(?:abbrev )?(?:pub )?(\S+) : goal\.")
+# Words that rt has of an edit, and those of the fault that is due; none of a refusal for a fact.
+WAYS = [
+    (None, "it was not tried"),
+    ("NOT TRIED: its check was killed, most likely for memory, so nothing is known of it: run this again", "NOT TRIED"),
+    ("NOT REFUSED: the crate is still proved with this edit (one that means the same as before cannot be refused: remove it)", "NOT REFUSED"),
+    ("BAD EDIT: an 'old:' text is in src/lib.rt 0 times, and not once", "BAD EDIT"),
+    (f"{REFUSED} (only because a proof file names what the edit took away, so ..): ./proofs/f/Answers.antt:7:9: error: ..", "for its shape"),
+    (f"{REFUSED} (only by a limit of the prover, which gave no verdict, so ..): ./proofs/f/Answers.antt:7:9: error: ..", "no fact is told"),
+    (REFUSED, "no fact is told"),
+    (f"{REFUSED}: ./proofs/f/Answers.antt:7:9: error: `returns`: `omega`: the goal does not follow from what it read", ""),
+]
 
 
 def edits():
@@ -29,7 +57,7 @@ def edits():
             elif line.startswith("old: "):
                 old = line[5:]
             elif line.startswith("new:"):
-                pairs.append((file, old, line[4:].strip()))
+                pairs.append((file, old, line[4:].removeprefix(" ")))
         yield f"{path.parts[1]}/{path.stem}", why, pairs
 
 
@@ -45,26 +73,90 @@ def misplaced(label, pairs):
     return out
 
 
-def unrefused(label):
-    """Faults of the log of an edit."""
-    log = TARGET / label / ".log"
-    if not log.exists():
-        return [f"{label}: no log: run `rt ci` or `rt must-fail` first"]
-    text = log.read_text(errors="replace")
-    place, words = first_error(text)
-    if "\nlogic=not-proved" not in text or place is None:
-        return [f"{label}: the prover did not refuse it"]
-    return [f"{label}: refused for its shape alone, at {place}: {words[:160]}"] if SHAPE.search(words) else []
+def goals(crates, crate):
+    """The goals of each function of a crate in a folder of crates, by the functions' names."""
+    with tempfile.TemporaryDirectory() as room:
+        subprocess.run(["rt", "names", room], cwd=crates / crate, capture_output=True, check=True)
+        listed = json.loads(pathlib.Path(room, "names.json").read_text())
+    found = {f: {goal for goal, _ in own} for key, of in listed.items() if key.startswith("off:") for f, own in of.items()}
+    return {name.split("::", 1)[1]: own for name, own in found.items()}
 
 
-def first_error(log):
-    """The first error of a log, as its place in the crate and its words."""
-    for line in log.split("\n"):
-        found = re.match(r"(\S+?):(\d+:\d+): error: (.*)", line)
+@functools.cache
+def unchanged(crate):
+    return goals(pathlib.Path("crates"), crate)
+
+
+def edited(crate, pairs):
+    """The goals of each function of a crate with an edit in it."""
+    with tempfile.TemporaryDirectory() as room:
+        shutil.copyfile("crates.txt", pathlib.Path(room, "crates.txt"))
+        copies = pathlib.Path(room, "crates")
+        for path in sorted(pathlib.Path("crates").glob("*/*")):
+            if path.name in PARTS:
+                shutil.copytree(path, copies / path.parts[-2] / path.name)
+        for file, old, new in pairs:
+            path = copies / crate / file
+            path.write_text(path.read_text().replace(old, new, 1))
+        return goals(copies, crate)
+
+
+def enclosing(crate, module, line):
+    """The function that a line of a file of src/ stands in, as its path below the crate."""
+    text = pathlib.Path("crates", crate, "src", f"{module}.rt").read_text().split("\n")[:line]
+    names = [found[1] for found in map(FUNCTION.match, text) if found]
+    prefix = "" if module in ("lib", "main") else module.replace("/", "::") + "::"
+    return prefix + names[-1] if names else None
+
+
+def renamed(crate, pairs, words):
+    """The answers that an edit left without their goals, where its refusal begins with a goal that the function has not else."""
+    found = OPEN.search(words)
+    if not found:
+        return []
+    function, goal, is_whole = enclosing(crate, found[1], int(found[2])), found[3].split("-clause-")[0], found[4] == "`)"
+    answers = pathlib.Path("crates", crate, "proofs", *(function or "").split("::"), "Answers.antt")
+    own = unchanged(crate).get(function, set())
+    if not function or not answers.is_file() or any(it == goal if is_whole else it.startswith(goal) for it in own):
+        return []
+    left, text = edited(crate, pairs).get(function, set()), answers.read_text()
+    for file, old, new in pairs:
+        text = text.replace(old, new, 1) if pathlib.Path("crates", crate, file) == answers else text
+    return [name for name in ANSWER.findall(text) if name.split("-clause-")[0] not in left]
+
+
+def unrefused(label, pairs, said):
+    """Faults of what rt said of an edit."""
+    words = said.get(label)
+    if words is None:
+        return [f"{label}: not a word of it: it was not tried"]
+    if not words.startswith(REFUSED):
+        return [f"{label}: {words[:240]}"]
+    told = words[len(REFUSED) :].strip()
+    if told.startswith("(only because a proof file names what the edit took away"):
+        return [f"{label}: refused for its shape alone: {told[-160:]}"]
+    if told.startswith("(") or not told.startswith(": "):
+        return [f"{label}: refused, and no fact is told that no longer holds: {told[:240]}"]
+    lost = renamed(label.split("/")[0], pairs, told)
+    return [f"{label}: refused for its shape alone: no goal is left for the answer {lost[0]}{told[:160]}"] if lost else []
+
+
+def read_log(path):
+    """What rt said of each edit, and of files that are none."""
+    said, faults = {}, []
+    for line in path.read_text(errors="replace").split("\n"):
+        found, stray = SAID.match(line), STRAY.match(line)
         if found:
-            place = re.sub(r".*/must-fail/[^/]+/[^/]+/", "", found[1])
-            return place, found[3]
-    return None, None
+            said[f"{found[1]}/{found[2]}"] = found[3]
+        elif stray:
+            faults.append(f"{stray[1]}: {stray[2]}")
+    return said, faults
+
+
+def unseen():
+    """The ways to fail that are not seen, and a refusal for a fact that is taken for one."""
+    faults = [(due, unrefused("crate/label", [], {} if words is None else {"crate/label": words})) for words, due in WAYS]
+    return [f"not seen, or seen where it is not: {due or 'a fact'}" for due, found in faults if bool(found) != bool(due) or due not in "".join(found)]
 
 
 def table(rows):
@@ -72,8 +164,9 @@ def table(rows):
         "# Must-fail edits",
         "",
         "Each edit changes an operand or a constant (or, for an order, exchanges two lines), and `rt ci` holds the prover to",
-        "refusing it. Made by `tests/must_fail.py --table`; the same script, with no argument, reads the logs of a run and fails",
-        "where an edit was refused for its shape alone.",
+        "refusing it. Where a proof names a step after what is changed, the edit brings the name along. Made by",
+        "`tests/must_fail.py --table`; the same script, given what a run of `rt ci` printed, fails where an edit was refused for",
+        "its shape alone.",
         "",
         "| Edit | What it would do | File | From | To |",
         "|---|---|---|---|---|",
@@ -91,28 +184,27 @@ def table(rows):
 
 
 def main():
-    faults, rows, seen = [], [], set()
-    for label, why, pairs in edits():
-        seen.add(label)
-        rows.append((label, why, pairs))
-        if not why:
-            faults.append(f"{label}: its first line does not say what it would do")
-        faults += misplaced(label, pairs) if "--edits" in sys.argv[1:] else unrefused(label)
-    for log in sorted(TARGET.glob("*/*/.log")) if "--edits" not in sys.argv[1:] else []:
-        label = f"{log.parts[-3]}/{log.parts[-2]}"
-        if label not in seen:
-            faults.append(f"{label}: a log of no edit: run `rt ci` again")
-    if "--table" in sys.argv[1:]:
+    words = sys.argv[1:]
+    if len(words) != 1 or (words[0].startswith("-") and words[0] not in ("--edits", "--table", "--self-test")):
+        sys.exit(__doc__)
+    if words == ["--self-test"]:
+        print(*(found := unseen()), f"{len(WAYS)} ways, {len(found)} not seen", sep="\n")
+        return 1 if found else 0
+    rows = list(edits())
+    if words == ["--table"]:
         sys.stdout.write(table(rows))
         return 0
+    said, faults = ({}, []) if words == ["--edits"] else read_log(pathlib.Path(words[0]))
+    for label, why, pairs in rows:
+        if not why:
+            faults.append(f"{label}: its first line does not say what it would do")
+        faults += misplaced(label, pairs) if words == ["--edits"] else unrefused(label, pairs, said)
+    faults += [f"{label}: a line of no edit" for label in sorted(set(said) - {label for label, _, _ in rows})]
     if not TABLE.exists() or TABLE.read_text() != table(rows):
         faults.append(f"{TABLE} is not the table of these edits: tests/must_fail.py --table > {TABLE}")
     for fault in faults:
         print(fault, file=sys.stderr)
-    if not rows:
-        print("no edit was found", file=sys.stderr)
-    else:
-        print(f"{len(rows)} edits, {len(faults)} faults")
+    print(f"{len(rows)} edits, {len(faults)} faults" if rows else "no edit was found")
     return 1 if faults or not rows else 0
 
 

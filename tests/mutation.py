@@ -1,9 +1,10 @@
 #!/usr/bin/env python3
 """mutation.py run CRATE.. | alone COUNT CRATE.. | report CRATE..: every operator and constant of the libraries, changed once.
 
-Run it at the repository's root after `rt check`. docs/MUTATION.md says what is changed, and how; no CRATE means every library.
-`run` tries what has no verdict yet, and goes on where an earlier run was cut. `alone` tries COUNT mutants of each crate once
-more, each by itself and from nothing, and those that stand. `report` prints the table, and each mutant that is not refused.
+Run it at the repository's root, once the crates below are built there (by `rt ci`, or by a check of a crate above them).
+docs/MUTATION.md says what is changed, and how; no CRATE means every library. `run` tries what has no verdict yet, and goes on
+where an earlier run was cut. `alone` tries COUNT mutants of each crate once more, each by itself and from nothing, and those that
+stand. `report` prints the table, and each mutant that is not refused.
 """
 import collections
 import pathlib
@@ -11,9 +12,9 @@ import sys
 import time
 
 sys.dont_write_bytecode = True
-sys.path.insert(0, str(pathlib.Path(__file__).parent / "mutation"))
+sys.path[:0] = [str(pathlib.Path(__file__).resolve().parent / part) for part in ("mutation", ".")]
 import crate as crates  # noqa: E402
-import trials  # noqa: E402
+import kit  # noqa: E402
 
 DOCUMENT = pathlib.Path("docs/MUTATION.md")
 
@@ -24,7 +25,7 @@ OPEN = ("bench_rosenbrock",)
 
 def libraries():
     """Every library that has code and says what it works out."""
-    names = [name for name in trials.dependencies() if pathlib.Path("crates", name, "src/lib.rt").exists()]
+    names = [name for name in kit.leans() if pathlib.Path("crates", name, "src/lib.rt").exists()]
     return [name for name in names if name not in OPEN and crates.Crate(name).sites]
 
 
@@ -32,6 +33,8 @@ def run(name):
     """Tries what is pending of a crate, once each function's unchanged copy is proved."""
     own, faults = crates.Crate(name), []
     own.room.mkdir(parents=True, exist_ok=True)
+    if missing := [it for it in kit.below(name) if not kit.rlib(it).is_dir()]:
+        sys.exit(f"{name}: {kit.rlib(missing[0])} is missing: run `rt check` in crates/{name}")
     if own.pending() and (unproved := own.control()):
         sys.exit(f"{name}: an unchanged copy of a function is not proved: {own.room}/log: {unproved}")
     while pending := own.pending():
@@ -55,16 +58,13 @@ def sampled(own, count):
 def alone(name, count):
     """Tries a sample of a crate's mutants one by one and from nothing, and compares the verdicts and the reasons."""
     own, faults = crates.Crate(name), []
-    where = own.room / "alone"
-    where.mkdir(parents=True, exist_ok=True)
+    own.room.mkdir(parents=True, exist_ok=True)
     sample = sampled(own, count)
     for site, record in sample:
-        own.write(where, [(site, record["which"])])
-        said = trials.run(name, where)
-        verdict, reason = own.judged(said, site.function)
-        same = (verdict, said.proved) == (record["verdict"], verdict == crates.STANDS)
+        verdict, reason, proved, seconds = own.tried_alone((site, record["which"]))
+        same = (verdict, proved) == (record["verdict"], verdict == crates.STANDS)
         faults += [] if same else [f"{site.key()}: {record['verdict']} together, {verdict} alone: {reason}"]
-        print(f"{site.key()}: {verdict}, {said.seconds:.0f} s{'' if same else ', a fault'}", flush=True)
+        print(f"{site.key()}: {verdict}, {seconds:.0f} s{'' if same else ', a fault'}", flush=True)
     print(f"{name}: {len(sample)} alone, {len(faults)} faults", flush=True)
     return faults
 

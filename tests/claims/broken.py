@@ -8,8 +8,8 @@ import names
 from repository import CLAIMS, DESIGN, EXAMINER, Repository, sections_of
 
 EVERY = "every document"
-# A command that keeps two edits, and a last line that says three.
-TWO_KEPT = "\n```\nfind ! -name a.edit ! -name b.edit\n```\n`rt: ok, 1 crates proved, 3 must-fail edits refused`"
+# A command that keeps two edits, and words that say three.
+TWO_KEPT = "\n```\nfind ! -name a.edit ! -name b.edit\n```\nIt tries these 3 edits."
 NO_LINES = "\n\n| A | B |\n|---|---|\n| crates/vector/none | 1 |\n\n"
 # A statement that uses a file that no table has, beside the first that is cited.
 READ_BACK = r"specs/Lib.antt, and crates/lines_theory/specs/ReadBack.antt, `ReadBackLaws`, and \1"
@@ -38,9 +38,8 @@ WAYS = [
     (counts, EVERY, put("There are 9999 crates."), "9999 crates, and there are"),
     (counts, EVERY, put("There are 9,999 edits."), "9,999 edits, and there are"),
     (counts, EVERY, put("`rt must-fail vector` tries 9999 edits."), "9999 edits, and there are"),
-    (counts, EVERY, put("`rt: ok, 9999 crates proved, 1 must-fail edits refused`"), "9999 crates, and there are"),
-    (counts, EVERY, put("`rt: ok, 1 crates proved, 9999 must-fail edits refused`"), "9999 must-fail edits, and there are"),
-    (counts, EVERY, put(TWO_KEPT), "3 must-fail edits, and there are 2"),
+    (counts, EVERY, put("`rt: ok; must-fail edits: 9999 refused`"), "9999 must-fail edits, and there are"),
+    (counts, EVERY, put(TWO_KEPT), "3 edits, and there are 2"),
     (counts, [DESIGN], change(r"^\| float \| (\d+) \| \d+ \| \d+ \|", r"| float | \1 | 999 | 0 |"), "float: edits 999, due"),
     (counts, [DESIGN], change(r"^\| float \| \d+ \| (\d+) \| \d+ \|", r"| float | 999 | \1 | 1 |"), "float: all its edits 1, due"),
     (counts, [DESIGN], change(r"^\| together \| *\| [\d,]+ ", "| together | | 9999 "), "together: edits 9999, due"),
@@ -52,10 +51,13 @@ WAYS = [
     (names, EVERY, put("crates/none/specs/Nothing.antt"), "crates/none/specs/Nothing.antt does not exist"),
     (names, EVERY, put("tests/none.py"), "tests/none.py does not exist"),
     (names, EVERY, put("examples/none*"), "examples/none* does not exist"),
-    (names, EVERY, put("target/bin/none"), "target/bin/none: no such program"),
-    (names, EVERY, put("target/bin/vector"), "target/bin/vector: no such program"),
-    (names, EVERY, put("`rt check fit none`"), "rt of none"),
-    (names, EVERY, put("\n```\nrt staticlib none\n```\n"), "rt of none"),
+    (names, EVERY, put("crates/none/out/none"), "crates/none/out/none: no such program or archive"),
+    (names, EVERY, put("crates/vector/out/vector"), "crates/vector/out/vector: no such program or archive"),
+    (names, EVERY, put("crates/c_fit/out/libfit.a"), "crates/c_fit/out/libfit.a: no such program or archive"),
+    (names, EVERY, put("`rt ci fit none`"), "rt ci of none, which is no crate"),
+    (names, EVERY, put("\n```\nrt must-fail none\n```\n"), "rt must-fail of none, which is no crate"),
+    (names, EVERY, put("`rt check fit`"), "rt check fit: no such command"),
+    (names, EVERY, put("\n```\nrt staticlib c_fit\n```\n"), "rt staticlib c_fit: no such command"),
     (names, ["crates/vector/specs/Ties.antt"], lambda text: text + SECOND_CLAIM, "Claim is declared by protocol and vector"),
     (cited, [CLAIMS, EXAMINER], change(r"(proofs/\w+\.antt, `)[^`]+", r"\1no-such-theorem"), "has no public `no-such-theorem`"),
     (cited, [CLAIMS, EXAMINER], change(r"(specs/\w+\.antt, `)[^`]+", r"\1NoSuch"), "has no public `NoSuch`"),

@@ -11,7 +11,7 @@ import re
 # What the code is proved equal to, by the contracts of the public operations (`standingOf` too, the reply that stands in a record, and
 # `blankOf`, what a refused start hands back). A statement says of these what it says, and nothing behind them need be believed.
 STOP = {"simplexOf", "bfgsOf", "lbfgsOf", "searchOf", "differencesOf", "answerOf", "validOf", "standingOf", "blankOf"}
-USE = re.compile(r"(?:unfoldable )?(?:pub )?use Rattle·(\w+)(?:·specs)?\.specs\.([\w-]+)(?:\.\{(.*)\}| as (\S+))")
+USE = re.compile(r"(?:unfoldable )?(?:pub )?use Rattle\.(\w+)\.specs\.([\w-]+)(?:\.\{(.*)\}| as (\S+))")
 DECLARATION = re.compile(r" *(?:(?:abbrev|unfoldable|pub) )*(?:(record|data) )?([^\s:({]+)\s*(.*)")
 STARTS = re.compile(r" *(?:(?:abbrev|unfoldable) (?:pub )?(?!use )|pub (?:record|data) |(?:record|data) (?!\{))")
 TOKEN = re.compile(r"[^\s(){};,.λ→×=:]+")
@@ -68,13 +68,13 @@ class Module:
 
 
 def parts(name):
-    """What stands for a name in a text: of `_⊑_` the sign alone."""
-    return [part for part in name.split("_") if part] if name.startswith("_") or name.endswith("_") else [name]
+    """What stands for a name in a text: of `◌⊑◌` the sign alone."""
+    return [part for part in name.split("◌") if part]
 
 
 def bound(text):
     """The names that a clause binds by `(x : ..)`, `λ x.` or `let x =`."""
-    out = set(re.findall(r"\blet (\S+) =", text))
+    out = set(re.findall(r"\blet (\S+) (?::[^=]*)?=", text))
     for names in re.findall(r"[({]([^\s(){}:][^(){}:]*?) :", text) + re.findall(r"λ ([^.]*)\.", text):
         out |= set(re.findall(r"[^\s(){}:,]+", re.sub(r":[^)]*", "", names)))
     return out
@@ -108,11 +108,12 @@ class Specs:
             own |= bound(declaration.scope) | bound(text)
             left = re.split(r" =(?:\s|$)", text)[0] if re.search(r" =(?:\s|$)", text) and not declaration.kind else ""
             own |= {word for word in TOKEN.findall(left) if not self.makes(crate, module, signs.get(word, word))} - {declaration.name}
-            # A field's name, behind a dot or before its value, is no name of a declaration.
-            plain = re.sub(r"([{;]\s*)\S+ =(?=\s)", r"\1", re.sub(r" \.[^\s(){};,]+", " ", declaration.scope + "\n" + text))
+            # A field's name, before its value or behind a dot, is no name of a declaration; behind a module's it is one.
+            whole = re.sub(r"([{;]\s*)\S+ =(?=\s)", r"\1", declaration.scope + "\n" + text)
+            plain = re.sub(rf"\.{TOKEN.pattern}", " ", whole)
             out |= {self.found(crate, module, signs[word]) for word in TOKEN.findall(plain) if word in signs and word not in own}
             for alias, there in here.aliases.items():
-                out |= {self.found(*there, word) for word in re.findall(rf"(?<![\w-]){re.escape(alias)}\.([^\s(){{}};,]+)", plain)}
+                out |= {self.found(*there, word) for word in re.findall(rf"(?<![\w.-]){re.escape(alias)}\.({TOKEN.pattern})", whole)}
         return out - {None}
 
     def makes(self, crate, module, name):

@@ -4,7 +4,9 @@ import re
 from repository import DESIGN, tables_of
 
 COUNT = re.compile(r"\b(\d[\d,]*) (must-fail edits|edits|crates)\b(?!/)")
-RT_OK = re.compile(r"rt: ok, (\d+) crates proved, (\d+) must-fail edits refused")
+# rt's line at the end of a run, and words for the edits that a command above them keeps.
+RT_OK = re.compile(r"must-fail edits: (\d[\d,]*) refused")
+KEPT = re.compile(r"\bthese \d[\d,]* edits\b")
 
 
 def number(text):
@@ -25,8 +27,8 @@ def shapes(repository):
 
 
 def in_words(repository):
-    """Faults of 'N crates' and 'N edits': all of them, but behind `rt must-fail CRATE` those of it and below, and of rt's last line
-    the edits that the command above it keeps, with the crates that hold them and those below."""
+    """Faults of 'N crates' and 'N edits': all of them, but behind `rt must-fail CRATE` those of that crate, and of 'these N edits'
+    those that the command above it keeps."""
     out, edits = [], repository.edits()
     everything = {"crates": len(edits), "edits": sum(map(len, edits.values()))}
     for document in repository.documents():
@@ -37,11 +39,10 @@ def in_words(repository):
             due = dict(everything)
             one = re.search(r"`rt must-fail (\w+)`", line)
             if one and one[1] in edits:
-                due["edits"] = sum(len(edits[crate]) for crate in repository.below(one[1]))
-            if RT_OK.search(line) and kept:
-                holders = [crate for crate, own in edits.items() if kept & set(own)]
-                due = {"crates": len(set().union(*map(repository.below, holders))), "edits": len(kept)}
-            for count, what in COUNT.findall(line):
+                due["edits"] = len(edits[one[1]])
+            if KEPT.search(line) and kept:
+                due["edits"] = len(kept)
+            for count, what in [*COUNT.findall(line), *((count, "must-fail edits") for count in RT_OK.findall(line))]:
                 if number(count) != due[what.split()[-1]]:
                     out.append(f"{document}:{at}: {count} {what}, and there are {due[what.split()[-1]]}")
     return out

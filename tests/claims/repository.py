@@ -23,23 +23,13 @@ class Repository:
 
     def crates(self):
         """Each crate with the crates that it leans on, as crates.txt has it."""
-        entries = re.findall(r"^(\w+):(.*)$", pathlib.Path("crates.txt").read_text(), re.M)
+        entries = re.findall(r"^(\w+)[^:#\n]*:(.*)$", pathlib.Path("crates.txt").read_text(), re.M)
         return {name: [dep for dep in deps.split() if dep in dict(entries)] for name, deps in entries}
 
     @functools.cache
     def edits(self):
         """Each crate with its must-fail edits."""
         return {crate: sorted(path.stem for path in pathlib.Path("crates", crate, "must-fail").glob("*.edit")) for crate in self.crates()}
-
-    def below(self, crate):
-        """A crate and all on which it leans."""
-        seen, todo, deps = set(), [crate], self.crates()
-        while todo:
-            name = todo.pop()
-            if name not in seen:
-                seen.add(name)
-                todo += deps[name]
-        return seen
 
     def is_program(self, name):
         return pathlib.Path("crates", name, "src/main.rt").exists()

@@ -1,5 +1,6 @@
-"""docs/crates.svg, made from crates.txt alone: a box to each room, its crates in it, an arrow to what each leans on."""
+"""docs/crates.svg, made from crates.txt and from which crates are programs: a box to each room, its crates, arrows to what each leans on."""
 import html
+import pathlib
 
 import layout
 
@@ -37,10 +38,10 @@ def short(room, crate):
     return crate.removeprefix(room.name) if crate != room.name else crate
 
 
-def kind_of(crate, deps):
+def kind_of(crate):
     if crate.endswith("_theory"):
         return "theory"
-    return "program" if "io" in deps else "chip"
+    return "program" if pathlib.Path("crates", crate, "src/main.rt").exists() else "chip"
 
 
 class Box:
@@ -68,10 +69,10 @@ class Box:
         name = f'<tspan class="room">{self.room.name}</tspan>'
         out.append(f'  <text x="{x + PAD}" y="{y + 19:g}">{name}<tspan class="note" dx="10">{html.escape(self.room.title)}</tspan></text>')
         out += [self.arrow(x, y, thread) for thread in self.threads]
-        for crate, deps in self.room.crates.items():
+        for crate in self.room.crates:
             left, right, high = self.place(x, y, crate)
             chip = f'x="{left:g}" y="{high - CHIP / 2:g}" width="{right - left:g}" height="{CHIP}" rx="4"'
-            out.append(f'  <rect class="{kind_of(crate, deps)}" {chip}/>')
+            out.append(f'  <rect class="{kind_of(crate)}" {chip}/>')
             out.append(text("crate", (left + right) / 2, high + 4, short(self.room, crate)))
         return out
 

@@ -8,6 +8,8 @@ HEAD = [
     "# A crate, and behind its colon what it names and what declares a type that it reaches through a field; nothing else.",
     "# Callees stand before callers, room by room. tests/crates.py holds this file to the rule.",
 ]
+# A crate's line: its name, a word for another kind than a library or a program, as staticlib, and what it leans on.
+ENTRY = re.compile(r"(?m)^(\w+)((?: [\w=+]+)*):(?: (.*))?$")
 # The room of crates whose names have no prefix.
 VALUES = "values"
 
@@ -17,6 +19,7 @@ class Room:
     name: str
     title: str
     crates: dict = dataclasses.field(default_factory=dict)
+    kinds: dict = dataclasses.field(default_factory=dict)
 
     def holds(self, crate, names):
         """Whether a crate is of this room, by its prefix."""
@@ -30,12 +33,13 @@ def rooms_of(text):
     rooms = []
     for line in text.split("\n"):
         title = re.fullmatch(r"# ([a-z0-9]+): (.*)", line)
-        entry = re.fullmatch(r"(\w+): ?(.*)", line)
+        entry = ENTRY.fullmatch(line)
         if title:
             rooms.append(Room(title[1], title[2]))
         elif entry:
             rooms = rooms or [Room("", "")]
-            rooms[-1].crates[entry[1]] = entry[2].split()
+            rooms[-1].kinds[entry[1]] = entry[2]
+            rooms[-1].crates[entry[1]] = (entry[3] or "").split()
     return rooms
 
 
@@ -44,7 +48,7 @@ def text_of(rooms):
     lines = list(HEAD)
     for room in rooms:
         lines.append(f"# {room.name}: {room.title}")
-        lines += [f"{crate}: {' '.join(deps)}".rstrip() for crate, deps in room.crates.items()]
+        lines += [f"{crate}{room.kinds.get(crate, '')}: {' '.join(deps)}".rstrip() for crate, deps in room.crates.items()]
     return "\n".join(lines) + "\n"
 
 
@@ -67,7 +71,7 @@ def made(rooms, leans, kit):
     for room in rooms:
         stay = [crate for crate in room.crates if crate in leans and room.holds(crate, names)]
         come = [crate for crate in leans if crate not in stay and room.holds(crate, names)]
-        out.append(Room(room.name, room.title, dict.fromkeys(ordered(stay + come, leans))))
+        out.append(Room(room.name, room.title, dict.fromkeys(ordered(stay + come, leans)), room.kinds))
     place = [crate for room in out for crate in room.crates] + list(kit)
     for room in out:
         room.crates = {crate: sorted(leans[crate], key=place.index) for crate in room.crates}
@@ -76,7 +80,7 @@ def made(rooms, leans, kit):
 
 def faults(text, rooms, leans, kit):
     """What is wrong with the rooms of a text, in words."""
-    listed = re.findall(r"(?m)^(\w+):", text)
+    listed = [entry[1] for entry in ENTRY.finditer(text)]
     out = [f"{crate} stands twice" for crate in sorted(set(listed)) if listed.count(crate) > 1]
     before, names = set(kit), [room.name for room in rooms]
     for room in rooms:

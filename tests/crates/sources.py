@@ -2,8 +2,10 @@
 import pathlib
 import re
 
-# Libraries of the kit; std is linked always and never listed.
+# Libraries of the kit that a crate here may name; std is linked always and never listed.
 KIT = ("check", "bytes", "os", "io", "libc")
+# A `use` item: the first word of its path and the others, and the names in braces, or the one name.
+USED = re.compile(r"(?m)^ *(?:pub )?use ([a-z_0-9]+)::((?:\w+::)*)(?:\{([^}]*)\}|(\w+(?: as \w+)?));")
 CODE, LOGIC = (".rt",), (".rt", ".antt")
 TYPE = re.compile(r"\b[A-Z]\w*")
 
@@ -27,13 +29,18 @@ class Source:
         logic = "\n".join(texts(crate, ["src", "specs", "proofs"], LOGIC))
         self.modules = set(re.findall(r"^ *(?:pub )?mod (\w+);", code, re.M))
         self.named = set(re.findall(r"(?<![\w:])([a-z_0-9]+)::", code)) - self.modules
-        self.named |= set(re.findall(r"Rattle·([a-z_0-9]+)[·.]", logic))
+        self.named |= set(re.findall(r"\bRattle\.([a-z_0-9]+)\.", logic))
         self.types = {}
         for name, body in re.findall(r"\b(?:struct|enum) (\w+)\s*(\{.*?\n\}|\(.*?\);)", code, re.S):
             self.types[name] = TYPE.findall(body)
         self.heads = {name: TYPE.findall(head) for name, head in re.findall(r"\bfn (\w+)(\([^{]*?)\s*(?:requires|ensures|\{)", code)}
-        uses = re.findall(r"\buse ([a-z_0-9]+)::(?:\w+::)*(\w+)(?: as (\w+))?;", code)
-        self.uses = {alias or name: (crate if first in self.modules else first, name) for first, name, alias in uses}
+        self.uses = {}
+        for first, inner, several, one in USED.findall(code):
+            for name, alias in re.findall(r"(\w+)(?: as (\w+))?", several or one):
+                name = f"{first}::{inner}".split("::")[-2] if name == "self" else name
+                self.uses[alias or name] = crate if first in self.modules else first, name
+        # A module that a `use` brings in, as `io` of std, is no crate of that name.
+        self.named -= {name for name, (first, _) in self.uses.items() if first != name}
         self.mentioned = set(TYPE.findall(code))
         self.called = set(re.findall(r"(?<![\w:])(?:([a-z_0-9]+)::)?(\w+)\(", code))
 
@@ -76,7 +83,4 @@ class Sources:
         return {declaring for declaring, _ in seen}
 
     def leans_on(self, crate):
-        out = {name for name in self.of[crate].named if name in self.of or name in KIT} | self.reached(crate)
-        if "io" in out:
-            out.add("libc")
-        return out - {crate}
+        return ({name for name in self.of[crate].named if name in self.of or name in KIT} | self.reached(crate)) - {crate}

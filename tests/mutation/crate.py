@@ -36,12 +36,21 @@ def stamp_of(name):
 
 
 def proof_of(where, function):
-    return where / "proofs" / "/".join(function.split("::")[1:]) / "Proof.antt"
+    """Where the files of a function's proof stand."""
+    return where / "proofs" / "/".join(function.split("::")[1:])
+
+
+def copy_proof(crate, where, function, copy, names):
+    """Gives a copy of a function a copy of its proof."""
+    for path in sorted(proof_of(pathlib.Path("crates", crate), function).glob("*.antt")):
+        to = proof_of(where, copy)
+        to.mkdir(parents=True, exist_ok=True)
+        (to / path.name).write_text(sites.copied_proof(path.read_text(), crate, function, copy, names))
 
 
 class Crate:
     def __init__(self, name):
-        self.name, self.room = name, trials.ROOM / name
+        self.name, self.room, self.copy = name, trials.ROOM / name, trials.COPIES / name
         self.results_file, self.stamp = self.room / "results", stamp_of(name)
         self.texts, self.sites, self.functions = {}, [], {}
         for path in sorted(pathlib.Path("crates", name, "src").glob("*.rt")):
@@ -53,8 +62,8 @@ class Crate:
             raise ValueError(f"{name}: two sites of one name")
 
     def results(self):
-        """What was recorded of the crate as it is: the best record of each site, with the number of changes tried and the last
-        refusal for shape, and the seconds of all runs."""
+        """What was recorded of the crate as it is: the best record of each site, with the number of changes tried, and the seconds
+        of all runs."""
         best, seconds = {}, 0.0
         for line in self.results_file.read_text().splitlines() if self.results_file.exists() else []:
             record = json.loads(line)
@@ -63,8 +72,7 @@ class Crate:
                 if "site" in record:
                     old = best.get(record["site"], record)
                     kept = old if record["verdict"] == FRONT else record
-                    need = record["reason"] if record["verdict"] == SHAPE else old.get("need", "")
-                    best[record["site"]] = {**kept, "tried": record["which"] + 1, "need": need}
+                    best[record["site"]] = {**kept, "tried": record["which"] + 1}
         return best, seconds
 
     def record(self, **fields):
@@ -77,7 +85,7 @@ class Crate:
         out = []
         for site in self.sites:
             record = best.get(site.key(), {"verdict": FRONT, "tried": 0})
-            if record["verdict"] in (SHAPE, FRONT) and record["tried"] < site.tries():
+            if record["verdict"] in (SHAPE, FRONT) and record["tried"] < len(site.news):
                 out.append((site, record["tried"]))
         return out
 
@@ -86,67 +94,76 @@ class Crate:
         trials.fresh(self.name, where)
         for file, text in self.texts.items():
             (where / "src" / file).write_text(sites.changed(text, [trial for trial in chosen if trial[0].file == file]))
-        for site, which in chosen:
-            if proof_of(where, site.function).exists():
-                proof_of(where, site.function).write_text(self.proof(site, which))
 
-    def proof(self, site, which):
-        """The proof of a mutant: that of its function, with a need renamed where no change does without."""
-        proof = proof_of(pathlib.Path("crates", self.name), site.function).read_text()
-        if which < len(site.news):
-            return proof
-        need = re.search(r"`tie\.Need-([\w-]+)`", self.results()[0][site.key()]["need"])
-        return sites.renamed(proof, need[1], site) if need else proof
+    def write_alone(self, where, trial):
+        """A change into a copy of the crate, and into the proof the names that its function then has. Returns the function's goals
+        before, and what the front end says where it refuses the change."""
+        function, none = trial[0].function, ([], [])
+        self.write(where, [])
+        before, _ = trials.names(self.name, where)
+        self.write(where, [trial])
+        after, refused = trials.names(self.name, where)
+        own = before.get(function, none)
+        if after is not None:
+            copy_proof(self.name, where, function, function, trials.other_names(own, after.get(function, none)))
+        return own[0], refused
 
     def copy_name(self, trial):
         return f"{trial[0].function}_c{self.sites.index(trial[0])}"
 
-    def add(self, where, file, text, function, copy, proof):
-        """A copy of a function into a copy of the crate, behind the file's last line. Returns its lines."""
+    def add(self, where, file, text):
+        """A text into a copy of the crate, behind the file's last line. Returns its lines."""
         path = where / "src" / file
         before = path.read_text()
         path.write_text(before + text + "\n")
-        if proof is not None:
-            proof_of(where, copy).parent.mkdir(parents=True)
-            proof_of(where, copy).write_text(sites.copied_proof(proof, function, copy))
         first = before.count("\n") + 1
         return file, range(first, first + text.count("\n") + 1)
 
     def write_beside(self, where, chosen):
-        """A mutant of its function beside it, for each trial. Returns the lines of each."""
+        """A mutant of its function beside it, for each trial, with no proof yet. Returns the lines of each."""
         trials.fresh(self.name, where)
         lines = []
         for trial in chosen:
             site, which = trial
             text = sites.copied(self.texts[site.file], site.function, site.item, self.copy_name(trial), site, which)
-            proof = self.proof(site, which) if proof_of(where, site.function).exists() else None
-            text = "\n".join([*site.needed(which), text])
-            lines.append(self.add(where, site.file, text, site.function, self.copy_name(trial), proof))
+            lines.append(self.add(where, site.file, "\n".join([*site.needed(which), text])))
         return lines
+
+    def write_proofs(self, where, chosen, names):
+        """The proof of each mutant: that of its function, with the names that are others in the mutant."""
+        for trial in chosen:
+            function, copy = trial[0].function, self.copy_name(trial)
+            other = trials.other_names(names[function], names[copy]) if function in names and copy in names else {}
+            copy_proof(self.name, where, function, copy, other)
 
     def write_controls(self, where):
         """An unchanged copy of each function beside it."""
         trials.fresh(self.name, where)
         for function, (file, item) in self.functions.items():
-            path = proof_of(where, function)
-            text = sites.copied(self.texts[file], function, item, function + "_c")
-            self.add(where, file, text, function, function + "_c", path.read_text() if path.exists() else None)
+            self.add(where, file, sites.copied(self.texts[file], function, item, function + "_c"))
+            copy_proof(self.name, where, function, function + "_c", {})
 
     def against(self, said, functions):
         """What the prover said against functions that are to be proved."""
         lines = {function: said.lines.get(function, "no line") for function in functions}
         return [f"{function}: {line}" for function, line in lines.items() if line != "proved"]
 
-    def judged(self, said, function):
-        """The verdict on a mutant that is this function, and its reason."""
-        line, error = said.lines.get(function, "no line"), trials.own_error(said, function)
+    def judged(self, said, function, file, span, goals):
+        """The verdict on a mutant that is this function, on these lines of a file, and its reason. `goals` are those of the function
+        that it was made of: one that nothing proves shows something if it is among them, or if no error says that names are gone."""
+        line = said.lines.get(function, "no line")
         if line == "proved":
             return STANDS, ""
-        if line.startswith("no proof"):
-            return REFUSED, "no proof is found, and there is no file"
-        if error is None:
-            raise RuntimeError(f"no verdict on {function}: {line}")
-        return (SHAPE if trials.SHAPE.search(error[1]) else REFUSED), f"{error[0]}: {error[1]}"[:400]
+        errors = [error for error in said.errors.get(function, []) if not trials.FOLLOWS.search(error[1])]
+        facts = [f"{place}: {message}" for place, message in errors if not trials.SHAPE.search(message)]
+        for place, at, words, goal in said.open:
+            if place == f"src/{file}" and at in span and (not errors or goal.split("-clause-")[0] in goals):
+                facts.append(f"{place}:{at}: {words}")
+        if facts:
+            return REFUSED, facts[0][:400]
+        if errors:
+            return SHAPE, f"{errors[0][0]}: {errors[0][1]}"[:400]
+        raise RuntimeError(f"no verdict on {function}: {line}")
 
     def note(self, trial, verdict, reason):
         site, which = trial
@@ -157,24 +174,41 @@ class Crate:
 
     def control(self):
         """Whether each function's unchanged copy is proved, so that a mutant is refused for its change."""
-        self.write_controls(self.room)
-        said = trials.run(self.name, self.room, "--incremental", str(self.room / "inc"))
+        self.write_controls(self.copy)
+        said = trials.run(self.name, self.copy, "--incremental", str(self.copy / "inc"))
         self.record(seconds=round(said.seconds, 2))
         return self.against(said, [f + end for f in self.functions for end in ("", "_c")])
 
+    def tried_alone(self, trial):
+        """A mutant by itself, in its function's place and from nothing: the verdict, its reason, whether the crate is proved, seconds."""
+        site, where = trial[0], self.copy / "alone"
+        goals, refused = self.write_alone(where, trial)
+        if refused:
+            return FRONT, "".join(message for _, _, message in refused.stray[:1]), False, 0.0
+        said = trials.run(self.name, where)
+        begin, _, end = site.item
+        first = self.texts[site.file].count("\n", 0, begin) + 1
+        span = range(first, self.texts[site.file].count("\n", 0, end) + 2)
+        return *self.judged(said, site.function, site.file, span, goals), said.proved, said.seconds
+
     def try_together(self, chosen):
         """One run, and a record of each trial. Where the front end refuses some of them, the others are tried without those."""
-        lines = self.write_beside(self.room, chosen)
-        said = trials.run(self.name, self.room, "--incremental", str(self.room / "inc"))
-        self.record(seconds=round(said.seconds, 2))
-        if said.verdict:
-            for trial in chosen:
-                self.note(trial, *self.judged(said, self.copy_name(trial)))
-            return self.against(said, self.functions)
+        lines = self.write_beside(self.copy, chosen)
+        names, refused = trials.names(self.name, self.copy)
+        if names is not None:
+            self.write_proofs(self.copy, chosen, names)
+            said = trials.run(self.name, self.copy, "--incremental", str(self.copy / "inc"))
+            self.record(seconds=round(said.seconds, 2))
+            if said.verdict:
+                for trial, (file, span) in zip(chosen, lines):
+                    goals = names[trial[0].function][0] if trial[0].function in names else []
+                    self.note(trial, *self.judged(said, self.copy_name(trial), file, span, goals))
+                return self.against(said, self.functions)
+            refused = said
         bad = [
             (trial, message)
             for trial, (file, span) in zip(chosen, lines)
-            for place, line, message in said.stray
+            for place, line, message in refused.stray
             if pathlib.Path(place).name == file and line in span
         ]
         if not bad:

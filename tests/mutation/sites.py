@@ -27,8 +27,6 @@ BINARY = {
     "<<=": [">>="], ">>=": ["<<="], "&=": ["|=", "^="], "|=": ["&=", "^="], "^=": ["&=", "|="],
 }  # fmt: skip
 UNARY = {"-": [""], "!": ["", "!!"], "..": ["..="]}
-# How the prover's names of needs begin, by operator.
-NEEDS = {"+": "add", "-": "sub", "*": "mul", "/": "div", "%": "rem"}
 KEYWORDS = {"return", "if", "while", "in", "else", "match", "let", "mut", "loop", "for", "break"}
 CLAUSES = {"requires", "ensures", "ghost"}
 ESCAPES = {"n": 10, "r": 13, "t": 9, "\\": 92, "0": 0, "'": 39, '"': 34}
@@ -60,12 +58,8 @@ class Site:
     def key(self):
         return f"{self.file}:{self.line}:{self.column} {self.function} {self.old}"
 
-    def tries(self):
-        """How often the site may be tried. Behind the changes comes the first once more, with the need renamed in the proof."""
-        return len(self.news) + (self.old[0] in NEEDS and len(self.news) > 1)
-
     def new(self, which):
-        return self.news[which % len(self.news)]
+        return self.news[which]
 
     def needed(self, which):
         """The lines that a change needs behind the file's last."""
@@ -170,7 +164,8 @@ def items_of(text, toks):
         elif word == "fn":
             name, first, i = toks[i + 1].text, i - (toks[i - 1].text == "pub"), i + 2
             while toks[i].text != "{":
-                i = close_of(toks, i + 1 if toks[i].text in CLAUSES else i) + 1
+                # A clause may have a name.
+                i = close_of(toks, upto(toks, i, "{") if toks[i].text in CLAUSES else i) + 1
             bodies.append((name, i, close_of(toks, i), first))
             i = bodies[-1][2]
         elif word == "{":
@@ -185,7 +180,10 @@ def constants_of(text):
 
 def used_constants(text):
     """The constants that a file has from others: of each its name, and its crate's."""
-    return {name: crate for crate, name in re.findall(r"^use (\w+)(?:::\w+)*::([A-Z][A-Z0-9_]+);$", text, re.MULTILINE)}
+    out = {}
+    for crate, several, one in re.findall(r"^use (\w+)(?:::\w+)*::(?:\{([^}]*)\}|(\w+));$", text, re.MULTILINE):
+        out |= {name: crate for name in re.findall(r"\w+", several or one) if re.fullmatch(r"[A-Z][A-Z0-9_]+", name)}
+    return out
 
 
 def body_places(toks, start, end):
@@ -284,19 +282,14 @@ def copied(text, function, item, copy, site=None, which=0):
     return head + text[name : site.start] + site.new(which) + text[site.end : end]
 
 
-def copied_proof(proof, function, copy):
-    """The proof of a function, as that of its copy."""
+def copied_proof(proof, crate, function, copy, names):
+    """A file of a function's proof, as its copy's, with the names of goals, places and steps that are others in the copy."""
     old, new = (".".join(name.split("::")[1:]) for name in (function, copy))
-    spec, other = (name.split("::")[-1].replace("_", "-") + "-spec" for name in (function, copy))
-    proof = re.sub(rf"(?<=·proofs\.proofs\.){re.escape(old)}(?=[.\s])", new, proof)
-    return re.sub(rf"(?<![\w-]){re.escape(spec)}(?![\w-])", other, proof)
-
-
-def renamed(proof, need, site):
-    """A proof with a need of the site's operator under the name that it has with the first change."""
-    base = re.sub(r"-\d+$", "", need).removeprefix(NEEDS[site.old[0]] + "-")
-    name = f"{NEEDS[site.news[0][0]]}-{base}"
-    return re.sub(rf"(?<![\w-])(Need-)?{re.escape(need)}(?![\w-])", lambda found: (found[1] or "") + name, proof)
+    proof = re.sub(rf"(?<=\bRattle\.{crate}\.proofs\.){re.escape(old)}(?=[.\s])", new, proof)
+    if not names:
+        return proof
+    either = "|".join(re.escape(name) for name in sorted(names, key=len, reverse=True))
+    return re.sub(rf"(?<![\w'-])({either})(?:(?![\w'-])|(?=-clause-))", lambda found: names[found[1]], proof)
 
 
 def changed(text, chosen):
