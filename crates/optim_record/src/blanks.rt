@@ -65,7 +65,7 @@ pub fn no_gradient_options() -> GradientOptions
     wolfe_options(wolfe, false)
 }
 
-// The record of a refused start: all zeros, with a mark that no job has.
+// The record of a refused start: zeros, with a mark that no job has, and the first phase of a search.
 pub fn blank() -> Record
     ensures { result ≡ blankOf }
 {
