@@ -9,9 +9,9 @@ ghost use Rattle.optim.specs.Answer.{answerOf};
 ghost use Rattle.optim.specs.Parts.{Speaks, repliedOf};
 
 pub use optim_record::{Answered, Record, blank, valid};
-use protocol::{SEARCH, SIMPLEX};
 use optim_reply::Spoken;
 pub use optim_start::{bfgs, differences, lbfgs, search, simplex};
+use protocol::{SEARCH, SIMPLEX};
 
 // What is said of a record, after an answer that met the refusal `why`.
 fn replied(r: Record, why: u64) -> Spoken
