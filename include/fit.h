@@ -1,8 +1,8 @@
 /* The fitting engine for C: crates/c_fit/out/libc_fit.a, which `tests/archive.py c_fit` builds for x86-64 Linux with glibc, with the
  * Rattle kit `rattle-kit-13f logic dac8208d650f15bf` (`rt version`). The parts of the engine at this header's end stand in
  * crates/c_api/out/libc_api.a (`tests/archive.py c_api`), which whole fits do not need. The archives need memcpy, memmove and memset,
- * and no heap; they have no global, and call nobody back: the caller holds the loop. An answer was seen to take 120,456 bytes of
- * stack, a start 41,640, any other function less than 4,096.
+ * and no heap; they have no global, and call nobody back: the caller holds the loop. At n 16 an answer was seen to take 120,456
+ * bytes of stack, a start 41,640; with the kit before this one any other function took less than 4,096.
  *
  * A fit is a `struct fit_record` that the caller holds, and two lists of sixteen beside it, `point` and `slopes`:
  *
