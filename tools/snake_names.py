@@ -1,0 +1,229 @@
+#!/usr/bin/env python3
+"""Spells the repository's own definitions and lemmas as today's Rattle does: words in snake case, types and modules in camel case.
+
+usage: python3 tools/snake_names.py [--check] [--labels FOLDER] [FOLDER]
+
+Reads each name that an .antt file below FOLDER/crates declares, at the top level, as a field or as a constructor, and respells it: a hump
+or a dash becomes an underscore, and a name that begins with a capital and has no dash is a type's and stays. What turns: whole words in
+.antt, .rt and .edit files and in code spans of the pages; strings stay, and so do functions of src/, which are in snake case. What the
+prover names stays: the goals that Answers.antt and Invariants.antt answer, and labels behind a dot in them. Those are read off the
+output of `rt names`, where --labels gives its folder, and else taken to be what is declared or stands behind a dot in these files
+and is declared nowhere else. A name whose new spelling stands already in a file that has the old one would fall together with it:
+it gets the spelling of CLASHES, and without one the script stops and names it. --check writes nothing and prints the table.
+"""
+import collections
+import json
+import os
+import re
+import sys
+
+NAME = r'[^\s(){}.;,@"«»]+'
+WORD = re.compile(NAME)
+HEAD = r"(?:(?:abbrev|unfoldable|pub|private|data|record|let|where|in|do|field|mutual|infix[lr]? \d+)\s+)*"
+DECLARED = re.compile(rf"(?m)^ *{HEAD}({NAME})(?: \{{[^{{}}\n]*\}})*(?: \([^()\n]*\))* :(?= |$)")
+NAMED = re.compile(rf"[{{;(] *({NAME}) :(?= )")
+TWO = re.compile(rf"(?m)^ *{HEAD}((?:{NAME} )+{NAME}) :(?= )")
+MADE = re.compile(r"proofs/.+/(?:Answers|Invariants)\.antt$")
+# What a goal of the prover begins with.
+GOAL = re.compile(r"(?:returns|invariant|decreases)(?:-|$)")
+QUIET = re.compile(r'"(?:[^"\\\n]|\\.)*"')
+SPAN = re.compile(r"(`+)(?:[^\n]|\n(?!\s*\n))*?\1")
+FENCE = re.compile(r"^( *)(`{3,})[^\n`]*\n.*?^\1\2 *$", re.S | re.M)
+# Names whose plain respelling is taken where they stand.
+CLASHES = {"is-nan": "is_nan_lem"}
+
+
+def snake(name):
+    """The name as a word in snake case; a type's name as it is."""
+    if name[:1].isupper() and "-" not in name:
+        return name
+    words = re.sub(r"(?<=[a-z0-9])[A-Z](?=[a-z0-9]|$)|(?<=[a-z0-9])[A-Z](?![A-Z])", lambda m: "_" + m[0].lower(), name)
+    return words.replace("-", "_")
+
+
+def files(top):
+    for folder, dirs, names in os.walk(os.path.join(top, "crates")):
+        dirs[:] = sorted(d for d in dirs if d != "out")
+        for n in sorted(names):
+            if n.endswith((".antt", ".rt", ".edit")):
+                yield os.path.join(folder, n)
+
+
+def pages(top):
+    for folder, dirs, names in os.walk(top):
+        dirs[:] = sorted(d for d in dirs if d not in (".git", "out", "crates", "target"))
+        for n in sorted(names):
+            if n.endswith(".md"):
+                yield os.path.join(folder, n)
+
+
+def read(path):
+    with open(path, encoding="utf-8") as f:
+        return f.read()
+
+
+def bare(text):
+    """The text without comments and strings."""
+    return re.sub(r"(?m)(?:^|(?<=\s))--[^\n]*|//[^\n]*", " ", QUIET.sub(" ", text))
+
+
+def labels_of(folder):
+    found = set()
+    for at, dirs, names in os.walk(folder):
+        for n in names:
+            if n.endswith(".json"):
+                found.update(re.findall(r"[\w-]+", read(os.path.join(at, n))))
+    return {w for w in found if "-" in w}
+
+
+def declared(text):
+    code = bare(text)
+    found = set(DECLARED.findall(code))
+    found.update(NAMED.findall(code))
+    for line in TWO.findall(code):
+        found.update(line.split())
+    return found
+
+
+def table_of(texts, labels):
+    own, made = set(), set(labels)
+    for path, text in texts.items():
+        if path.endswith(".antt") and not MADE.search(path):
+            own.update(declared(text))
+    for path, text in texts.items():
+        if MADE.search(path):
+            here = declared(text)
+            goals = {w for w in here if GOAL.match(w) or w in labels or (not labels and w not in own and re.search(rf"(?m)^(?:pub )?{re.escape(w)} ", text))}
+            made |= goals
+            own |= here - goals
+    odd = {w: snake(w) for w in own if snake(w) != w and re.fullmatch(r"[\w'≢→≡≤-]+", w) and not w.startswith("-")}
+    many = collections.Counter(odd.values())
+    taken = {w for w, n in many.items() if n > 1} | own
+    # A lemma that would have its function's name gets `_lem`, as the kit's style says.
+    return {w: new + "_lem" if "-" in w and new in taken else new for w, new in odd.items()}, made, own
+
+
+class Turner:
+    def __init__(self, table, made, own):
+        self.table, self.made, self.own = table, made, own
+        self.here = set()
+
+    def words(self, text, proof):
+        def one(m):
+            w = m[0]
+            if w not in self.table:
+                return w
+            if proof and w in self.made and (w not in self.own or text[:m.start()].endswith(".")):
+                return w
+            return self.table[w]
+
+        return WORD.sub(one, text)
+
+    def code(self, text, proof=False):
+        out, at = [], 0
+        for m in QUIET.finditer(text):
+            out += [self.words(text[at:m.start()], proof), m[0]]
+            at = m.end()
+        return "".join(out) + self.words(text[at:], proof)
+
+    def prose(self, text):
+        """Names in code spans, and words with a hump, whose old spelling can be nothing else."""
+        def in_span(m):
+            return re.sub(r"[\w'≢→≡≤-]+", lambda w: self.table.get(w[0], w[0]), m[0])
+
+        text = SPAN.sub(in_span, text)
+        return re.sub(r"[\w'-]+", lambda w: self.table.get(w[0], w[0]) if w[0] in self.here or re.search(r"[a-z0-9][A-Z]", w[0]) and "-" not in w[0] else w[0], text)
+
+    def antt(self, text, proof):
+        """Code turns, comments turn as prose."""
+        out = []
+        for line in text.split("\n"):
+            m = re.search(r"(?:^|(?<=\s))--(?=\s|$)", QUIET.sub(lambda q: "x" * len(q[0]), line))
+            cut = m.start() if m else len(line)
+            out.append(self.code(line[:cut], proof) + self.prose(line[cut:]))
+        return "\n".join(out)
+
+    def rt(self, text):
+        out = []
+        for line in text.split("\n"):
+            m = re.search(r"//", QUIET.sub(lambda q: "x" * len(q[0]), line))
+            cut = m.start() if m else len(line)
+            code = "".join(p if i % 2 else re.sub(r"(?<![\w'-])[A-Za-z][\w'≢-]*", lambda w: self.table.get(w[0], w[0]), p) for i, p in enumerate(re.split(r'("(?:[^"\\]|\\.)*")', line[:cut])))
+            out.append(code + self.prose(line[cut:]))
+        return "\n".join(out)
+
+    def edit(self, text):
+        target, out = "", []
+        for line in text.split("\n"):
+            if line.startswith("file: "):
+                target = line[6:].strip()
+                out.append(line)
+            elif line.startswith(("old: ", "new: ")):
+                body = line[5:]
+                proof = bool(MADE.search("/" + target))
+                out.append(line[:5] + (self.rt(body) if target.endswith(".rt") else self.antt(body, proof)))
+            else:
+                out.append(self.prose(line))
+        return "\n".join(out)
+
+    def turn(self, path, text):
+        self.here = set(WORD.findall(bare(text))) if path.endswith(".antt") else set()
+        if path.endswith(".antt"):
+            return self.antt(text, bool(MADE.search(path)))
+        if path.endswith(".rt"):
+            return self.rt(text)
+        if path.endswith(".edit"):
+            return self.edit(text)
+        return FENCE.sub(lambda m: self.prose(m[0]), self.prose(text))
+
+
+def clashes(texts, table, made):
+    """Old names whose new spelling stands already in a file that has the old one, or that two old names of a file share."""
+    said = collections.defaultdict(list)
+    for path, text in texts.items():
+        if not path.endswith(".antt"):
+            continue
+        found = set(WORD.findall(re.sub(r"(?m)^use [^\n{]*", " ", bare(text))))
+        here = [w for w in found if w in table and not (MADE.search(path) and w in made)]
+        news = collections.Counter(table[w] for w in here)
+        for w in here:
+            if table[w] in found or news[table[w]] > 1:
+                said[w].append(path)
+    return said
+
+
+def main(argv):
+    check = "--check" in argv
+    argv = [a for a in argv if a != "--check"]
+    labels = set()
+    if "--labels" in argv:
+        at = argv.index("--labels")
+        labels = labels_of(argv[at + 1])
+        del argv[at:at + 2]
+    top = argv[0] if argv else "."
+    texts = {p: read(p) for p in files(top)}
+    table, made, own = table_of(texts, labels)
+    table.update({w: CLASHES[w] for w in CLASHES if w in table})
+    said = clashes(texts, table, made)
+    for w in sorted(said):
+        print(f"clash: {w} -> {table[w]}: {len(said[w])} files, {os.path.relpath(said[w][0], top)}")
+    both = sorted(own & set(table) & made)
+    print(f"{len(table)} names turn; {len(both)} are spelled like a label of the prover: {' '.join(both)}")
+    if check:
+        for w in sorted(table):
+            print(w, table[w])
+        return 1 if said else 0
+    if said:
+        return 1
+    turner = Turner(table, made, own)
+    for path in list(texts) + list(pages(top)):
+        old = texts[path] if path in texts else read(path)
+        new = turner.turn(path, old)
+        if new != old:
+            with open(path, "w", encoding="utf-8") as f:
+                f.write(new)
+    return 0
+
+
+if __name__ == "__main__":
+    raise SystemExit(main(sys.argv[1:]))
