@@ -29,6 +29,8 @@ GOAL = re.compile(r"(?:returns|invariant|decreases)(?:-|$)")
 QUIET = re.compile(r'"(?:[^"\\\n]|\\.)*"')
 SPAN = re.compile(r"(`+)(?:[^\n]|\n(?!\s*\n))*?\1")
 FENCE = re.compile(r"^( *)(`{3,})[^\n`]*\n.*?^\1\2 *$", re.S | re.M)
+# Words of the papers that prose keeps outside code spans.
+QUOTED = {"totalOrder"}
 # Names whose plain respelling is taken where they stand.
 CLASHES = {"is-nan": "is_nan_lem"}
 
@@ -132,7 +134,7 @@ class Turner:
             return re.sub(r"[\w'≢→≡≤-]+", lambda w: self.table.get(w[0], w[0]), m[0])
 
         text = SPAN.sub(in_span, text)
-        return re.sub(r"[\w'-]+", lambda w: self.table.get(w[0], w[0]) if w[0] in self.here or re.search(r"[a-z0-9][A-Z]", w[0]) and "-" not in w[0] else w[0], text)
+        return re.sub(r"[\w'-]+", lambda w: w[0] if w[0] in QUOTED or "`" in w[0] else self.table.get(w[0], w[0]) if w[0] in self.here or re.search(r"[a-z0-9][A-Z]", w[0]) and "-" not in w[0] else w[0], text)
 
     def antt(self, text, proof):
         """Code turns, comments turn as prose."""

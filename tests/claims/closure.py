@@ -8,9 +8,9 @@ import functools
 import pathlib
 import re
 
-# What the code is proved equal to, by the contracts of the public operations (`standingOf` too, the reply that stands in a record, and
-# `blankOf`, what a refused start hands back). A statement says of these what it says, and nothing behind them need be believed.
-STOP = {"simplexOf", "bfgsOf", "lbfgsOf", "searchOf", "differencesOf", "answerOf", "validOf", "standingOf", "blankOf"}
+# What the code is proved equal to, by the contracts of the public operations (`standing_of` too, the reply that stands in a record, and
+# `blank_of`, what a refused start hands back). A statement says of these what it says, and nothing behind them need be believed.
+STOP = {"simplex_of", "bfgs_of", "lbfgs_of", "search_of", "differences_of", "answer_of", "valid_of", "standing_of", "blank_of"}
 USE = re.compile(r"(?:unfoldable )?(?:pub )?use Rattle\.(\w+)\.specs\.([\w-]+)(?:\.\{(.*)\}| as (\S+))")
 DECLARATION = re.compile(r" *(?:(?:abbrev|unfoldable|pub) )*(?:(record|data) )?([^\s:({]+)\s*(.*)")
 STARTS = re.compile(r" *(?:(?:abbrev|unfoldable) (?:pub )?(?!use )|pub (?:record|data) |(?:record|data) (?!\{))")

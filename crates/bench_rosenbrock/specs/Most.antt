@@ -2,8 +2,8 @@
 use Rattle.std.specs.Prelude.{ℕ, Bool, true, cond, eqb, ltb}
 
 -- n is not from 1 to 16
-unfoldable pub outsideOf : ℕ → Bool
-outsideOf n = cond (eqb n 0) true (ltb 16 n)
+unfoldable pub outside_of : ℕ → Bool
+outside_of n = cond (eqb n 0) true (ltb 16 n)
 
-unfoldable pub mostOf : ℕ → ℕ
-mostOf n = cond (outsideOf n) 0 100000
+unfoldable pub most_of : ℕ → ℕ
+most_of n = cond (outside_of n) 0 100000

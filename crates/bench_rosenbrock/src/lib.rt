@@ -3,7 +3,7 @@
 #![tactic(auto)]
 
 ghost use Rattle.std.specs.Prelude.{◌≡◌, ◌≤◌, length};
-ghost use Rattle.bench_rosenbrock.specs.Most.{outsideOf, mostOf};
+ghost use Rattle.bench_rosenbrock.specs.Most.{outside_of, most_of};
 
 use optim::{Answered, Record};
 use protocol::{
@@ -205,7 +205,7 @@ fn told(r: Record, x: [f64; 16], n: usize, said: Said) -> Answered
 
 // Whether n is none that a fit is started with.
 fn outside(n: usize) -> bool
-    ensures { result ≡ outsideOf n }
+    ensures { result ≡ outside_of n }
 {
     if n == 0 {
         return true;
@@ -217,7 +217,7 @@ fn outside(n: usize) -> bool
 // and behind them the outcome, is put into `list` as far as it has room.
 #[unsafe(no_mangle)]
 pub extern "C" fn rosenbrock_fit(job: u64, n: usize, gradients: bool, list: &mut [f64]) -> u64
-    ensures { result ≤ mostOf n }
+    ensures { result ≤ most_of n }
 {
     if outside(n) {
         return 0;

@@ -8,11 +8,11 @@ mod options;
 mod reply;
 
 ghost use Rattle.std.specs.Prelude.{◌≡◌};
-ghost use Rattle.float.specs.Values.{maxOf, minOf, finiteOf};
-ghost use Rattle.float.specs.Order.{precedesOf};
-ghost use Rattle.float.specs.Sqrt.{sqrtOf};
-ghost use Rattle.protocol.specs.Protocol.{readOf};
-ghost use Rattle.objective.specs.Algorithm.{forwardOf, backwardOf, slopeAt};
+ghost use Rattle.float.specs.Values.{max_of, min_of, finite_of};
+ghost use Rattle.float.specs.Order.{precedes_of};
+ghost use Rattle.float.specs.Sqrt.{sqrt_of};
+ghost use Rattle.protocol.specs.Protocol.{read_of};
+ghost use Rattle.objective.specs.Algorithm.{forward_of, backward_of, slope_at};
 
 use objective::Differences;
 pub use options::{
@@ -23,21 +23,21 @@ pub use reply::{Reply, hand};
 
 #[unsafe(no_mangle)]
 pub extern "C" fn fit_sqrt(x: f64) -> f64
-    ensures { result ≡ sqrtOf x }
+    ensures { result ≡ sqrt_of x }
 {
     float::sqrt(x)
 }
 
 #[unsafe(no_mangle)]
 pub extern "C" fn fit_max(a: f64, b: f64) -> f64
-    ensures { result ≡ maxOf a b }
+    ensures { result ≡ max_of a b }
 {
     float::max(a, b)
 }
 
 #[unsafe(no_mangle)]
 pub extern "C" fn fit_min(a: f64, b: f64) -> f64
-    ensures { result ≡ minOf a b }
+    ensures { result ≡ min_of a b }
 {
     float::min(a, b)
 }
@@ -45,14 +45,14 @@ pub extern "C" fn fit_min(a: f64, b: f64) -> f64
 // Whether a comes before b in IEEE 754's total order: -0.0 before +0.0, a NaN last.
 #[unsafe(no_mangle)]
 pub extern "C" fn fit_precedes(a: f64, b: f64) -> bool
-    ensures { result ≡ precedesOf a b }
+    ensures { result ≡ precedes_of a b }
 {
     float::precedes(a, b)
 }
 
 #[unsafe(no_mangle)]
 pub extern "C" fn fit_is_finite(x: f64) -> bool
-    ensures { result ≡ finiteOf x }
+    ensures { result ≡ finite_of x }
 {
     float::is_finite(x)
 }
@@ -60,7 +60,7 @@ pub extern "C" fn fit_is_finite(x: f64) -> bool
 // How a value told passes into a fit: one that is not finite is read as +infinity.
 #[unsafe(no_mangle)]
 pub extern "C" fn fit_read(v: f64) -> f64
-    ensures { result ≡ readOf v }
+    ensures { result ≡ read_of v }
 {
     objective::read(v)
 }
@@ -68,7 +68,7 @@ pub extern "C" fn fit_read(v: f64) -> f64
 // The coordinate of the first question of a central difference at x.
 #[unsafe(no_mangle)]
 pub extern "C" fn fit_forward(x: f64) -> f64
-    ensures { result ≡ forwardOf x }
+    ensures { result ≡ forward_of x }
 {
     objective::forward(x)
 }
@@ -76,7 +76,7 @@ pub extern "C" fn fit_forward(x: f64) -> f64
 // The coordinate of the second.
 #[unsafe(no_mangle)]
 pub extern "C" fn fit_backward(x: f64) -> f64
-    ensures { result ≡ backwardOf x }
+    ensures { result ≡ backward_of x }
 {
     objective::backward(x)
 }
@@ -85,7 +85,7 @@ pub extern "C" fn fit_backward(x: f64) -> f64
 // coordinate.
 #[unsafe(no_mangle)]
 pub extern "C" fn fit_slope(x: f64, fp: f64, fm: f64) -> f64
-    ensures { result ≡ slopeAt x fp fm }
+    ensures { result ≡ slope_at x fp fm }
 {
     let s = Differences {
         at: 0,

@@ -1,10 +1,10 @@
 // Lists of coordinates, lent. The library's functions take at most sixteen; these decide every list.
 ghost use Rattle.std.specs.Prelude.{◌≡◌};
-ghost use Rattle.c_api.specs.Lists.{listDotOf, listInfNormOf, listFiniteOf};
+ghost use Rattle.c_api.specs.Lists.{list_dot_of, list_inf_norm_of, list_finite_of};
 
 #[unsafe(no_mangle)]
 pub extern "C" fn fit_dot(a: &[f64], b: &[f64]) -> f64
-    ensures { result ≡ listDotOf a.now b.now }
+    ensures { result ≡ list_dot_of a.now b.now }
 {
     let n = a.len();
     if 16 < n {
@@ -20,7 +20,7 @@ pub extern "C" fn fit_dot(a: &[f64], b: &[f64]) -> f64
 
 #[unsafe(no_mangle)]
 pub extern "C" fn fit_inf_norm(a: &[f64]) -> f64
-    ensures { result ≡ listInfNormOf a.now }
+    ensures { result ≡ list_inf_norm_of a.now }
 {
     let n = a.len();
     if 16 < n {
@@ -32,7 +32,7 @@ pub extern "C" fn fit_inf_norm(a: &[f64]) -> f64
 
 #[unsafe(no_mangle)]
 pub extern "C" fn fit_all_finite(a: &[f64]) -> bool
-    ensures { result ≡ listFiniteOf a.now }
+    ensures { result ≡ list_finite_of a.now }
 {
     let n = a.len();
     if 16 < n {

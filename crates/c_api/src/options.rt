@@ -1,8 +1,8 @@
 // The refusals that a start's options meet. The structs are those of protocol, with C's layout asked for: a
 // struct crosses the boundary only where it is `#[repr(C)]`.
 ghost use Rattle.std.specs.Prelude.{◌≡◌};
-ghost use Rattle.optim_first_record.specs.Starts.{simplexRefusalOf, gradientRefusalOf, searchRefusalOf};
-ghost use Rattle.c_api.specs.Options.{toAllowanceOf, toAllowancesOf, toSimplexOf, toWolfeOf, toGradientOf, fromRefusalOf};
+ghost use Rattle.optim_first_record.specs.Starts.{simplex_refusal_of, gradient_refusal_of, search_refusal_of};
+ghost use Rattle.c_api.specs.Options.{to_allowance_of, to_allowances_of, to_simplex_of, to_wolfe_of, to_gradient_of, from_refusal_of};
 
 // An allowance: absent, or a number.
 #[repr(C)]
@@ -58,7 +58,7 @@ pub struct Refusal {
 }
 
 fn to_allowance(a: Allowance) -> protocol::Allowance
-    ensures { result ≡ toAllowanceOf a }
+    ensures { result ≡ to_allowance_of a }
 {
     protocol::Allowance {
         given: a.given,
@@ -67,7 +67,7 @@ fn to_allowance(a: Allowance) -> protocol::Allowance
 }
 
 pub fn to_allowances(a: Allowances) -> protocol::Allowances
-    ensures { result ≡ toAllowancesOf a }
+    ensures { result ≡ to_allowances_of a }
 {
     let iter = to_allowance(a.iter);
     let fevals = to_allowance(a.fevals);
@@ -75,7 +75,7 @@ pub fn to_allowances(a: Allowances) -> protocol::Allowances
 }
 
 pub fn to_simplex(o: SimplexOptions) -> protocol::SimplexOptions
-    ensures { result ≡ toSimplexOf o }
+    ensures { result ≡ to_simplex_of o }
 {
     protocol::SimplexOptions {
         xtol: o.xtol,
@@ -87,7 +87,7 @@ pub fn to_simplex(o: SimplexOptions) -> protocol::SimplexOptions
 }
 
 pub fn to_wolfe(o: WolfeOptions) -> protocol::WolfeOptions
-    ensures { result ≡ toWolfeOf o }
+    ensures { result ≡ to_wolfe_of o }
 {
     protocol::WolfeOptions {
         c1: o.c1,
@@ -98,7 +98,7 @@ pub fn to_wolfe(o: WolfeOptions) -> protocol::WolfeOptions
 }
 
 pub fn to_gradient(o: GradientOptions) -> protocol::GradientOptions
-    ensures { result ≡ toGradientOf o }
+    ensures { result ≡ to_gradient_of o }
 {
     let wolfe = to_wolfe(o.wolfe);
     protocol::GradientOptions {
@@ -112,7 +112,7 @@ pub fn to_gradient(o: GradientOptions) -> protocol::GradientOptions
 }
 
 fn from_refusal(r: protocol::Refusal) -> Refusal
-    ensures { result ≡ fromRefusalOf r }
+    ensures { result ≡ from_refusal_of r }
 {
     Refusal {
         number: r.number,
@@ -123,7 +123,7 @@ fn from_refusal(r: protocol::Refusal) -> Refusal
 // The refusal that a start of a simplex fit of so many coordinates meets, before its point is looked at.
 #[unsafe(no_mangle)]
 pub extern "C" fn fit_simplex_refusal(count: usize, o: SimplexOptions, a: Allowances) -> Refusal
-    ensures { result ≡ fromRefusalOf (simplexRefusalOf count (toSimplexOf o) (toAllowancesOf a)) }
+    ensures { result ≡ from_refusal_of (simplex_refusal_of count (to_simplex_of o) (to_allowances_of a)) }
 {
     let options = to_simplex(o);
     let both = to_allowances(a);
@@ -139,7 +139,7 @@ pub extern "C" fn fit_gradient_refusal(
     a: Allowances,
     limited: bool,
 ) -> Refusal
-    ensures { result ≡ fromRefusalOf (gradientRefusalOf count (toGradientOf o) (toAllowancesOf a) limited) }
+    ensures { result ≡ from_refusal_of (gradient_refusal_of count (to_gradient_of o) (to_allowances_of a) limited) }
 {
     let options = to_gradient(o);
     let both = to_allowances(a);
@@ -155,7 +155,7 @@ pub extern "C" fn fit_search_refusal(
     gcount: usize,
     o: WolfeOptions,
 ) -> Refusal
-    ensures { result ≡ fromRefusalOf (searchRefusalOf n dcount gcount (toWolfeOf o)) }
+    ensures { result ≡ from_refusal_of (search_refusal_of n dcount gcount (to_wolfe_of o)) }
 {
     let options = to_wolfe(o);
     let why = optim_first_record::search_refusal(n, dcount, gcount, options);

@@ -1,7 +1,7 @@
 // What a call says, as numbers: an enum does not cross to C.
 ghost use Rattle.std.specs.Prelude.{◌≡◌, []};
-ghost use Rattle.protocol.specs.Protocol.{replyOf};
-ghost use Rattle.c_api.specs.Reply.{reasonOf, replyAs};
+ghost use Rattle.protocol.specs.Protocol.{reply_of};
+ghost use Rattle.c_api.specs.Reply.{reason_of, reply_as};
 
 use protocol::{Kind, Said, Termination};
 
@@ -28,7 +28,7 @@ pub struct Reply {
 
 // A reason's place among the nine, from 1.
 fn place(t: Termination) -> u64
-    ensures { result ≡ reasonOf t }
+    ensures { result ≡ reason_of t }
 {
     match t {
         Termination::GradientTolerance => 1,
@@ -45,7 +45,7 @@ fn place(t: Termination) -> u64
 
 // What is said, by its numbers alone: point and gradient are lent beside it.
 pub fn hand(s: Said) -> Reply
-    ensures { result ≡ replyAs (replyOf s 0 [] []) }
+    ensures { result ≡ reply_as (reply_of s 0 [] []) }
 {
     let mut r = Reply {
         what: 5,

@@ -7,38 +7,38 @@ use lib.Ieee.{Float}
 use Rattle.protocol.specs.declared.Allowances.{Allowances}
 use Rattle.protocol.specs.declared.WolfeOptions.{WolfeOptions}
 use Rattle.protocol.specs.declared.Said.{Said}
-use Rattle.protocol.specs.Protocol.{Reply, replyOf}
+use Rattle.protocol.specs.Protocol.{Reply, reply_of}
 use Rattle.optim_record.specs.declared.Record.{Record}
-use Rattle.optim_start.specs.Start.{searchOf}
+use Rattle.optim_start.specs.Start.{search_of}
 use Rattle.optim_lists.specs.Lists.{Lists}
-use Rattle.optim_lists.specs.Answered.{startedOf, pointAfter, slopesAfter}
+use Rattle.optim_lists.specs.Answered.{started_of, point_after, slopes_after}
 use Rattle.c_api.specs.declared.reply.Reply as c
-use Rattle.c_api.specs.Reply.{replyAs}
-use Rattle.c_api.proofs.Laws.{any-point}
-use Rattle.c_fit.specs.Handed.{handedOf}
+use Rattle.c_api.specs.Reply.{reply_as}
+use Rattle.c_api.proofs.Laws.{any_point}
+use Rattle.c_fit.specs.Handed.{handed_of}
 
 -- what the contract of a call over lent lists says, of the engine and of what C calls
 abbrev pub Left : Reply × Lists → List Float → List Float → List Float → List Float → Reply × Lists → Type 0
-Left o p' q' p q y = record { outcome : o ≡ y; said_point : p' ≡ pointAfter y p; said_slopes : q' ≡ slopesAfter y q }
+Left o p' q' p q y = record { outcome : o ≡ y; said_point : p' ≡ point_after y p; said_slopes : q' ≡ slopes_after y q }
 
 abbrev pub Handed : c.Reply → Lists → List Float → List Float → List Float → List Float → Reply × Lists → Type 0
-Handed r l p' q' p q y = record { outcome : (r, l) ≡ handedOf y; said_point : p' ≡ pointAfter y p; said_slopes : q' ≡ slopesAfter y q }
+Handed r l p' q' p q y = record { outcome : (r, l) ≡ handed_of y; said_point : p' ≡ point_after y p; said_slopes : q' ≡ slopes_after y q }
 
 -- what a call over lent lists leaves, by what the engine's call left
-pub handed : (s : Said) (n : ℕ) (p q : List Float) {r : c.Reply} {p' q' : List Float} {l : Lists} {y : Reply × Lists} → r ≡ replyAs (replyOf s 0 [] [])
-    → Left (replyOf s n p' q', l) p' q' p q y → Handed r l p' q' p q y
+pub handed : (s : Said) (n : ℕ) (p q : List Float) {r : c.Reply} {p' q' : List Float} {l : Lists} {y : Reply × Lists} → r ≡ reply_as (reply_of s 0 [] [])
+    → Left (reply_of s n p' q', l) p' q' p q y → Handed r l p' q' p q y
 handed s n p q {p' = p'} {q' = q'} {l = l} e h =
-    record { outcome = ap (λ (k : c.Reply). (k, l)) (e ∙ any-point s n p' q') ∙ ap handedOf h.outcome; said_point = h.said_point; said_slopes = h.said_slopes }
+    record { outcome = ap (λ (k : c.Reply). (k, l)) (e ∙ any_point s n p' q') ∙ ap handed_of h.outcome; said_point = h.said_point; said_slopes = h.said_slopes }
 
 -- and of a call whose options were C's
-pub handed-as : (s : Said) (n : ℕ) (p q : List Float) {r : c.Reply} {p' q' : List Float} {l : Lists} {y z : Reply × Lists} → y ≡ z → r ≡ replyAs (replyOf s 0 [] [])
-    → Left (replyOf s n p' q', l) p' q' p q y → Handed r l p' q' p q z
-handed-as s n p q {r = r} {p' = p'} {q' = q'} {l = l} w e h = subst (Handed r l p' q' p q) w (handed s n p q e h)
+pub handed_as : (s : Said) (n : ℕ) (p q : List Float) {r : c.Reply} {p' q' : List Float} {l : Lists} {y z : Reply × Lists} → y ≡ z → r ≡ reply_as (reply_of s 0 [] [])
+    → Left (reply_of s n p' q', l) p' q' p q y → Handed r l p' q' p q z
+handed_as s n p q {r = r} {p' = p'} {q' = q'} {l = l} w e h = subst (Handed r l p' q' p q) w (handed s n p q e h)
 
 -- a fit's start with the same options
-pub fit-as : {O : Type 0} (start : List Float → O → Allowances → Reply × Record) (x : List Float) {o o' : O} {a a' : Allowances} → o ≡ o' → a ≡ a' → startedOf (start x o a) ≡ startedOf (start x o' a')
-fit-as {O} start x = ap₂ (λ (k : O) (b : Allowances). startedOf (start x k b))
+pub fit_as : {O : Type 0} (start : List Float → O → Allowances → Reply × Record) (x : List Float) {o o' : O} {a a' : Allowances} → o ≡ o' → a ≡ a' → started_of (start x o a) ≡ started_of (start x o' a')
+fit_as {O} start x = ap₂ (λ (k : O) (b : Allowances). started_of (start x k b))
 
 -- and a search's
-pub search-as : (x d : List Float) (f0 : Float) (g : List Float) (step : Float) (gradients : Bool) {o o' : WolfeOptions} → o ≡ o' → startedOf (searchOf x d f0 g step o gradients) ≡ startedOf (searchOf x d f0 g step o' gradients)
-search-as x d f0 g step gradients = ap (λ (o : WolfeOptions). startedOf (searchOf x d f0 g step o gradients))
+pub search_as : (x d : List Float) (f0 : Float) (g : List Float) (step : Float) (gradients : Bool) {o o' : WolfeOptions} → o ≡ o' → started_of (search_of x d f0 g step o gradients) ≡ started_of (search_of x d f0 g step o' gradients)
+search_as x d f0 g step gradients = ap (λ (o : WolfeOptions). started_of (search_of x d f0 g step o gradients))

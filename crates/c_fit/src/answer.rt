@@ -1,8 +1,8 @@
 // One call for each answer: the record's arrays are lent, and the engine's call over them is made. What it says crosses as numbers.
 ghost use Rattle.std.specs.Prelude.{◌≡◌};
 ghost use Rattle.optim_lists.specs.Lists.{lists};
-ghost use Rattle.optim_lists.specs.Answered.{answeredOf, pointAfter, slopesAfter};
-ghost use Rattle.c_fit.specs.Handed.{handedOf};
+ghost use Rattle.optim_lists.specs.Answered.{answered_of, point_after, slopes_after};
+ghost use Rattle.c_fit.specs.Handed.{handed_of};
 
 use c_api::{Reply, hand};
 
@@ -38,9 +38,9 @@ pub extern "C" fn fit_record_answer(
     point: &mut [f64; 16],
     slopes: &mut [f64; 16],
 ) -> Reply
-    ensures outcome { (result, lists m.new w.new dx.new dg.new sx.new best.new centroid.new reflected.new points.new values.new lx.new lg.new ld.new tx.new tg.new ex.new eg.new ix.new ig.new h.new steps.new changes.new factors.new) ≡ handedOf (answeredOf (lists m.old w.old dx.old dg.old sx.old best.old centroid.old reflected.old points.old values.old lx.old lg.old ld.old tx.old tg.old ex.old eg.old ix.old ig.old h.old steps.old changes.old factors.old) number kind words.now) }
-    ensures said_point { point.new ≡ pointAfter (answeredOf (lists m.old w.old dx.old dg.old sx.old best.old centroid.old reflected.old points.old values.old lx.old lg.old ld.old tx.old tg.old ex.old eg.old ix.old ig.old h.old steps.old changes.old factors.old) number kind words.now) point.old }
-    ensures said_slopes { slopes.new ≡ slopesAfter (answeredOf (lists m.old w.old dx.old dg.old sx.old best.old centroid.old reflected.old points.old values.old lx.old lg.old ld.old tx.old tg.old ex.old eg.old ix.old ig.old h.old steps.old changes.old factors.old) number kind words.now) slopes.old }
+    ensures outcome { (result, lists m.new w.new dx.new dg.new sx.new best.new centroid.new reflected.new points.new values.new lx.new lg.new ld.new tx.new tg.new ex.new eg.new ix.new ig.new h.new steps.new changes.new factors.new) ≡ handed_of (answered_of (lists m.old w.old dx.old dg.old sx.old best.old centroid.old reflected.old points.old values.old lx.old lg.old ld.old tx.old tg.old ex.old eg.old ix.old ig.old h.old steps.old changes.old factors.old) number kind words.now) }
+    ensures said_point { point.new ≡ point_after (answered_of (lists m.old w.old dx.old dg.old sx.old best.old centroid.old reflected.old points.old values.old lx.old lg.old ld.old tx.old tg.old ex.old eg.old ix.old ig.old h.old steps.old changes.old factors.old) number kind words.now) point.old }
+    ensures said_slopes { slopes.new ≡ slopes_after (answered_of (lists m.old w.old dx.old dg.old sx.old best.old centroid.old reflected.old points.old values.old lx.old lg.old ld.old tx.old tg.old ex.old eg.old ix.old ig.old h.old steps.old changes.old factors.old) number kind words.now) slopes.old }
 {
     let said = optim_lent::answer(
         m, w, dx, dg, sx, best, centroid, reflected, points, values, lx, lg, ld, tx, tg, ex, eg,

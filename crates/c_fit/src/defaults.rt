@@ -1,13 +1,13 @@
 // The options of the Rust's `impl Default`.
 ghost use Rattle.std.specs.Prelude.{◌≡◌};
-ghost use Rattle.c_fit.specs.Defaults.{defaultSimplex, defaultWolfe, defaultGradient, defaultAllowances};
+ghost use Rattle.c_fit.specs.Defaults.{default_simplex, default_wolfe, default_gradient, default_allowances};
 
 use c_api::{Allowance, Allowances, GradientOptions, SimplexOptions, WolfeOptions};
 
 // Of a simplex fit.
 #[unsafe(no_mangle)]
 pub extern "C" fn fit_default_simplex() -> SimplexOptions
-    ensures { result ≡ defaultSimplex }
+    ensures { result ≡ default_simplex }
 {
     SimplexOptions {
         xtol: 1e-8,
@@ -21,7 +21,7 @@ pub extern "C" fn fit_default_simplex() -> SimplexOptions
 // Of a search.
 #[unsafe(no_mangle)]
 pub extern "C" fn fit_default_wolfe() -> WolfeOptions
-    ensures { result ≡ defaultWolfe }
+    ensures { result ≡ default_wolfe }
 {
     WolfeOptions {
         c1: 1e-4,
@@ -34,7 +34,7 @@ pub extern "C" fn fit_default_wolfe() -> WolfeOptions
 // Of a fit by bfgs or lbfgs whose objective gives no gradients, as the Rust's gives none by default.
 #[unsafe(no_mangle)]
 pub extern "C" fn fit_default_gradient() -> GradientOptions
-    ensures { result ≡ defaultGradient }
+    ensures { result ≡ default_gradient }
 {
     let wolfe = fit_default_wolfe();
     GradientOptions {
@@ -50,7 +50,7 @@ pub extern "C" fn fit_default_gradient() -> GradientOptions
 // Of a fit's allowances: both are absent.
 #[unsafe(no_mangle)]
 pub extern "C" fn fit_default_allowances() -> Allowances
-    ensures { result ≡ defaultAllowances }
+    ensures { result ≡ default_allowances }
 {
     let absent = Allowance {
         given: false,

@@ -1,9 +1,9 @@
 // The start of bare differences. The record's arrays are lent, and may hold anything; a refused start leaves the blank record.
 ghost use Rattle.std.specs.Prelude.{◌≡◌};
-ghost use Rattle.optim_start.specs.Start.{differencesOf};
+ghost use Rattle.optim_start.specs.Start.{differences_of};
 ghost use Rattle.optim_lists.specs.Lists.{lists};
-ghost use Rattle.optim_lists.specs.Answered.{startedOf, pointAfter, slopesAfter};
-ghost use Rattle.c_fit.specs.Handed.{handedOf};
+ghost use Rattle.optim_lists.specs.Answered.{started_of, point_after, slopes_after};
+ghost use Rattle.c_fit.specs.Handed.{handed_of};
 
 use c_api::{Reply, hand};
 
@@ -37,9 +37,9 @@ pub extern "C" fn fit_record_differences(
     point: &mut [f64; 16],
     slopes: &mut [f64; 16],
 ) -> Reply
-    ensures outcome { (result, lists m.new w.new dx.new dg.new sx.new best.new centroid.new reflected.new points.new values.new lx.new lg.new ld.new tx.new tg.new ex.new eg.new ix.new ig.new h.new steps.new changes.new factors.new) ≡ handedOf (startedOf (differencesOf x.now)) }
-    ensures said_point { point.new ≡ pointAfter (startedOf (differencesOf x.now)) point.old }
-    ensures said_slopes { slopes.new ≡ slopesAfter (startedOf (differencesOf x.now)) slopes.old }
+    ensures outcome { (result, lists m.new w.new dx.new dg.new sx.new best.new centroid.new reflected.new points.new values.new lx.new lg.new ld.new tx.new tg.new ex.new eg.new ix.new ig.new h.new steps.new changes.new factors.new) ≡ handed_of (started_of (differences_of x.now)) }
+    ensures said_point { point.new ≡ point_after (started_of (differences_of x.now)) point.old }
+    ensures said_slopes { slopes.new ≡ slopes_after (started_of (differences_of x.now)) slopes.old }
 {
     let said = optim_lent::differences(
         m, w, dx, dg, sx, best, centroid, reflected, points, values, lx, lg, ld, tx, tg, ex, eg,

@@ -1,10 +1,10 @@
 // The start of a fit by lbfgs. The record's arrays are lent, and may hold anything; a refused start leaves the blank record.
 ghost use Rattle.std.specs.Prelude.{◌≡◌};
-ghost use Rattle.optim_start.specs.Start.{lbfgsOf};
+ghost use Rattle.optim_start.specs.Start.{lbfgs_of};
 ghost use Rattle.optim_lists.specs.Lists.{lists};
-ghost use Rattle.optim_lists.specs.Answered.{startedOf, pointAfter, slopesAfter};
-ghost use Rattle.c_api.specs.Options.{toAllowancesOf, toGradientOf};
-ghost use Rattle.c_fit.specs.Handed.{handedOf};
+ghost use Rattle.optim_lists.specs.Answered.{started_of, point_after, slopes_after};
+ghost use Rattle.c_api.specs.Options.{to_allowances_of, to_gradient_of};
+ghost use Rattle.c_fit.specs.Handed.{handed_of};
 
 use c_api::{Allowances, GradientOptions, Reply, hand, to_allowances, to_gradient};
 
@@ -40,9 +40,9 @@ pub extern "C" fn fit_record_lbfgs(
     point: &mut [f64; 16],
     slopes: &mut [f64; 16],
 ) -> Reply
-    ensures outcome { (result, lists m.new w.new dx.new dg.new sx.new best.new centroid.new reflected.new points.new values.new lx.new lg.new ld.new tx.new tg.new ex.new eg.new ix.new ig.new h.new steps.new changes.new factors.new) ≡ handedOf (startedOf (lbfgsOf x.now (toGradientOf o) (toAllowancesOf a))) }
-    ensures said_point { point.new ≡ pointAfter (startedOf (lbfgsOf x.now (toGradientOf o) (toAllowancesOf a))) point.old }
-    ensures said_slopes { slopes.new ≡ slopesAfter (startedOf (lbfgsOf x.now (toGradientOf o) (toAllowancesOf a))) slopes.old }
+    ensures outcome { (result, lists m.new w.new dx.new dg.new sx.new best.new centroid.new reflected.new points.new values.new lx.new lg.new ld.new tx.new tg.new ex.new eg.new ix.new ig.new h.new steps.new changes.new factors.new) ≡ handed_of (started_of (lbfgs_of x.now (to_gradient_of o) (to_allowances_of a))) }
+    ensures said_point { point.new ≡ point_after (started_of (lbfgs_of x.now (to_gradient_of o) (to_allowances_of a))) point.old }
+    ensures said_slopes { slopes.new ≡ slopes_after (started_of (lbfgs_of x.now (to_gradient_of o) (to_allowances_of a))) slopes.old }
 {
     let options = to_gradient(o);
     let both = to_allowances(a);

@@ -1,10 +1,10 @@
 // The start of a bare search. The record's arrays are lent, and may hold anything; a refused start leaves the blank record.
 ghost use Rattle.std.specs.Prelude.{◌≡◌};
-ghost use Rattle.optim_start.specs.Start.{searchOf};
+ghost use Rattle.optim_start.specs.Start.{search_of};
 ghost use Rattle.optim_lists.specs.Lists.{lists};
-ghost use Rattle.optim_lists.specs.Answered.{startedOf, pointAfter, slopesAfter};
-ghost use Rattle.c_api.specs.Options.{toWolfeOf};
-ghost use Rattle.c_fit.specs.Handed.{handedOf};
+ghost use Rattle.optim_lists.specs.Answered.{started_of, point_after, slopes_after};
+ghost use Rattle.c_api.specs.Options.{to_wolfe_of};
+ghost use Rattle.c_fit.specs.Handed.{handed_of};
 
 use c_api::{Reply, WolfeOptions, hand, to_wolfe};
 
@@ -44,9 +44,9 @@ pub extern "C" fn fit_record_search(
     point: &mut [f64; 16],
     slopes: &mut [f64; 16],
 ) -> Reply
-    ensures outcome { (result, lists m.new w.new dx.new dg.new sx.new best.new centroid.new reflected.new points.new values.new lx.new lg.new ld.new tx.new tg.new ex.new eg.new ix.new ig.new h.new steps.new changes.new factors.new) ≡ handedOf (startedOf (searchOf x.now d.now f0 g.now step (toWolfeOf o) gradients)) }
-    ensures said_point { point.new ≡ pointAfter (startedOf (searchOf x.now d.now f0 g.now step (toWolfeOf o) gradients)) point.old }
-    ensures said_slopes { slopes.new ≡ slopesAfter (startedOf (searchOf x.now d.now f0 g.now step (toWolfeOf o) gradients)) slopes.old }
+    ensures outcome { (result, lists m.new w.new dx.new dg.new sx.new best.new centroid.new reflected.new points.new values.new lx.new lg.new ld.new tx.new tg.new ex.new eg.new ix.new ig.new h.new steps.new changes.new factors.new) ≡ handed_of (started_of (search_of x.now d.now f0 g.now step (to_wolfe_of o) gradients)) }
+    ensures said_point { point.new ≡ point_after (started_of (search_of x.now d.now f0 g.now step (to_wolfe_of o) gradients)) point.old }
+    ensures said_slopes { slopes.new ≡ slopes_after (started_of (search_of x.now d.now f0 g.now step (to_wolfe_of o) gradients)) slopes.old }
 {
     let options = to_wolfe(o);
     let said = optim_lent::search(

@@ -1,10 +1,10 @@
 // The start of a simplex fit. The record's arrays are lent, and may hold anything; a refused start leaves the blank record.
 ghost use Rattle.std.specs.Prelude.{◌≡◌};
-ghost use Rattle.optim_start.specs.Start.{simplexOf};
+ghost use Rattle.optim_start.specs.Start.{simplex_of};
 ghost use Rattle.optim_lists.specs.Lists.{lists};
-ghost use Rattle.optim_lists.specs.Answered.{startedOf, pointAfter, slopesAfter};
-ghost use Rattle.c_api.specs.Options.{toAllowancesOf, toSimplexOf};
-ghost use Rattle.c_fit.specs.Handed.{handedOf};
+ghost use Rattle.optim_lists.specs.Answered.{started_of, point_after, slopes_after};
+ghost use Rattle.c_api.specs.Options.{to_allowances_of, to_simplex_of};
+ghost use Rattle.c_fit.specs.Handed.{handed_of};
 
 use c_api::{Allowances, Reply, SimplexOptions, hand, to_allowances, to_simplex};
 
@@ -40,9 +40,9 @@ pub extern "C" fn fit_record_simplex(
     point: &mut [f64; 16],
     slopes: &mut [f64; 16],
 ) -> Reply
-    ensures outcome { (result, lists m.new w.new dx.new dg.new sx.new best.new centroid.new reflected.new points.new values.new lx.new lg.new ld.new tx.new tg.new ex.new eg.new ix.new ig.new h.new steps.new changes.new factors.new) ≡ handedOf (startedOf (simplexOf x.now (toSimplexOf o) (toAllowancesOf a))) }
-    ensures said_point { point.new ≡ pointAfter (startedOf (simplexOf x.now (toSimplexOf o) (toAllowancesOf a))) point.old }
-    ensures said_slopes { slopes.new ≡ slopesAfter (startedOf (simplexOf x.now (toSimplexOf o) (toAllowancesOf a))) slopes.old }
+    ensures outcome { (result, lists m.new w.new dx.new dg.new sx.new best.new centroid.new reflected.new points.new values.new lx.new lg.new ld.new tx.new tg.new ex.new eg.new ix.new ig.new h.new steps.new changes.new factors.new) ≡ handed_of (started_of (simplex_of x.now (to_simplex_of o) (to_allowances_of a))) }
+    ensures said_point { point.new ≡ point_after (started_of (simplex_of x.now (to_simplex_of o) (to_allowances_of a))) point.old }
+    ensures said_slopes { slopes.new ≡ slopes_after (started_of (simplex_of x.now (to_simplex_of o) (to_allowances_of a))) slopes.old }
 {
     let options = to_simplex(o);
     let both = to_allowances(a);

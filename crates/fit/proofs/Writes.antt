@@ -18,22 +18,22 @@ further a b c all done rest n split before now = (
 )
 
 -- a front of a text is one of a longer text
-pub front-longer : (w : Bool) (a b : Option (List ℕ)) (t more : List ℕ) → Wrote w a b t → Wrote false a b (t ++ more)
-front-longer true a b t more h = (t, more, refl, h)
-front-longer false a b t more (front, rest, split, h) = (front, rest ++ more, ap (λ l. l ++ more) split ∙ append_assoc front rest more, h)
+pub front_longer : (w : Bool) (a b : Option (List ℕ)) (t more : List ℕ) → Wrote w a b t → Wrote false a b (t ++ more)
+front_longer true a b t more h = (t, more, refl, h)
+front_longer false a b t more (front, rest, split, h) = (front, rest ++ more, ap (λ l. l ++ more) split ∙ append_assoc front rest more, h)
 
 -- a text behind one that was written whole
-pub then-text : (w : Bool) (a b c : Option (List ℕ)) (t u : List ℕ) → Appends a b t → Wrote w b c u → Wrote w a c (t ++ u)
-then-text true a b c t u h k = Appends-trans a b c t u h k
-then-text false a b c t u h (front, rest, split, k) = (t ++ front, rest, ap (λ l. t ++ l) split ∙ sym (append_assoc t front rest), Appends-trans a b c t front h k)
+pub then_text : (w : Bool) (a b c : Option (List ℕ)) (t u : List ℕ) → Appends a b t → Wrote w b c u → Wrote w a c (t ++ u)
+then_text true a b c t u h k = Appends-trans a b c t u h k
+then_text false a b c t u h (front, rest, split, k) = (t ++ front, rest, ap (λ l. t ++ l) split ∙ sym (append_assoc t front rest), Appends-trans a b c t front h k)
 
 -- nothing is written once a text was lost
-pub then-kept : (a b c : Option (List ℕ)) (t : List ℕ) → Wrote false a b t → Keeps b c → Wrote false a c t
-then-kept a b c t (front, rest, split, h) k = (front, rest, split, Appends-kept a b c front h k)
+pub then_kept : (a b c : Option (List ℕ)) (t : List ℕ) → Wrote false a b t → Keeps b c → Wrote false a c t
+then_kept a b c t (front, rest, split, h) k = (front, rest, split, Appends-kept a b c front h k)
 
 -- a text more: as line_fed writes it
-pub then-line : (w v : Bool) (a b c : Option (List ℕ)) (t u : List ℕ) → Wrote w a b t → (w ≡ false → v ≡ false) → (w ≡ false → Keeps b c) → (w ≡ true → Wrote v b c u)
+pub then_line : (w v : Bool) (a b c : Option (List ℕ)) (t u : List ℕ) → Wrote w a b t → (w ≡ false → v ≡ false) → (w ≡ false → Keeps b c) → (w ≡ true → Wrote v b c u)
     → Wrote v a c (t ++ u)
-then-line true v a b c t u h lost kept now = then-text v a b c t u h (now refl)
-then-line false true a b c t u h lost kept now = absurd (true≢false (lost refl))
-then-line false false a b c t u h lost kept now = then-kept a b c (t ++ u) (front-longer false a b t u h) (kept refl)
+then_line true v a b c t u h lost kept now = then_text v a b c t u h (now refl)
+then_line false true a b c t u h lost kept now = absurd (true≢false (lost refl))
+then_line false false a b c t u h lost kept now = then_kept a b c (t ++ u) (front_longer false a b t u h) (kept refl)

@@ -5,8 +5,8 @@
 
 ghost use Rattle.std.specs.Prelude.{◌≡◌, ◌≢◌, ℕ, true, false, List, [], drop, IfSome};
 ghost use Rattle.std.specs.Io.KnownBytes.{Appends, Consumes, Keeps};
-ghost use Rattle.fit_state.specs.States.{scannedOf};
-ghost use Rattle.fit_dialogue.specs.Program.{byBytes, firstPlace, outputOf, passedOf, stepOf, turnedOf};
+ghost use Rattle.fit_state.specs.States.{scanned_of};
+ghost use Rattle.fit_dialogue.specs.Program.{by_bytes, first_place, output_of, passed_of, step_of, turned_of};
 ghost use Rattle.fit.specs.Output.{Wrote};
 
 use fit_dialogue::{Place, Step};
@@ -53,12 +53,12 @@ fn write_reply<W: Write>(output: &mut W, bytes: &[u8]) -> bool
 
 // One line of a part: what it brings is written, unless a reply before it was lost.
 fn line_fed<W: Write>(output: &mut W, p: Place, s: &[u8], from: usize, written: bool) -> Stepped
-    ensures step { result.step ≡ stepOf p from (drop from s.now) }
+    ensures step { result.step ≡ step_of p from (drop from s.now) }
     ensures lost { written ≡ false → result.written ≡ false }
     ensures kept { written ≡ false → Keeps (W.contents output.old) (W.contents output.new) }
     ensures reply { written ≡ true →
         Wrote result.written (W.contents output.old) (W.contents output.new)
-        (turnedOf p (scannedOf from (drop from s.now) p.reader)).0 }
+        (turned_of p (scanned_of from (drop from s.now) p.reader)).0 }
 {
     let mut out = [0u8; 512];
     let step = fit_dialogue::stepped(&mut out, p, s, from);
@@ -68,9 +68,9 @@ fn line_fed<W: Write>(output: &mut W, p: Place, s: &[u8], from: usize, written: 
 
 // A part of the input, line by line.
 fn fed_part<W: Write>(output: &mut W, p: Place, s: &[u8]) -> Fed
-    ensures place { result.place ≡ (passedOf p s.now).1 }
+    ensures place { result.place ≡ (passed_of p s.now).1 }
     ensures replies { Wrote result.written (W.contents output.old) (W.contents output.new)
-        (passedOf p s.now).0 }
+        (passed_of p s.now).0 }
 {
     let mut place = p;
     let mut written = true;
@@ -87,7 +87,7 @@ fn fed_part<W: Write>(output: &mut W, p: Place, s: &[u8]) -> Fed
 // The input ends: what a line that is begun brings is written.
 fn ended<W: Write>(output: &mut W, p: Place) -> bool
     ensures { Wrote result (W.contents output.old) (W.contents output.new)
-        (byBytes p.state p.reader []) }
+        (by_bytes p.state p.reader []) }
 {
     let mut out = [0u8; 512];
     let count = fit_dialogue::closed(&mut out, p);
@@ -99,12 +99,12 @@ fn ended<W: Write>(output: &mut W, p: Place) -> bool
 // line before it was answered, and the line that it left open was not, so that no reply waits for a read.
 fn run<R: Read, W: Write>(input: &mut R, output: &mut W) -> End
     ensures whole { result ≡ End.Whole → IfSome (R.remaining input.old)
-        (λ bs. Appends (W.contents output.old) (W.contents output.new) (outputOf bs)) }
+        (λ bs. Appends (W.contents output.old) (W.contents output.new) (output_of bs)) }
     ensures lost { result ≡ End.WriteFailed → IfSome (R.remaining input.old)
-        (λ bs. Wrote false (W.contents output.old) (W.contents output.new) (outputOf bs)) }
+        (λ bs. Wrote false (W.contents output.old) (W.contents output.new) (output_of bs)) }
     ensures cut { result ≢ End.Whole → result ≢ End.WriteFailed → (bs : List ℕ)
         × Consumes (R.remaining input.old) (R.remaining input.new) bs
-        × Appends (W.contents output.old) (W.contents output.new) (passedOf firstPlace bs).0 }
+        × Appends (W.contents output.old) (W.contents output.new) (passed_of first_place bs).0 }
 {
     let mut buf = [0u8; 65536];
     let mut place = fit_dialogue::opened();

@@ -6,8 +6,8 @@
 ghost use Rattle.std.specs.Prelude.{◌≡◌, [], drop, length};
 ghost use Rattle.lines_buffer.specs.Texts.{filled};
 ghost use Rattle.fit_state.specs.States.{Turned};
-ghost use Rattle.fit_dialogue.specs.Talk.{decidedOf};
-ghost use Rattle.fit_dialogue.specs.Program.{byBytes, firstPlace, Stepped};
+ghost use Rattle.fit_dialogue.specs.Talk.{decided_of};
+ghost use Rattle.fit_dialogue.specs.Program.{by_bytes, first_place, Stepped};
 
 use fit_line::{first, heard, second, second_gradient, third};
 pub use fit_state::{State, Turn, begun, scanned};
@@ -32,7 +32,7 @@ pub struct Step {
 
 // What a line brings, in every state. After the stop it brings nothing.
 pub fn decided(out: &mut [u8; 512], s: State, l: LineRead) -> Turn
-    ensures { Turned (decidedOf s l) out.old out.new result }
+    ensures { Turned (decided_of s l) out.old out.new result }
 {
     let due = s.due;
     if due == LINE1 {
@@ -55,7 +55,7 @@ pub fn decided(out: &mut [u8; 512], s: State, l: LineRead) -> Turn
 
 // Before the first byte.
 pub fn opened() -> Place
-    ensures { result ≡ firstPlace }
+    ensures { result ≡ first_place }
 {
     let state = begun();
     let reader = lines_options::started(state.due);
@@ -100,7 +100,7 @@ pub fn stepped(out: &mut [u8; 512], p: Place, s: &[u8], from: usize) -> Step
 
 // The input ends: how many bytes are to be printed for a line that is begun.
 pub fn closed(out: &mut [u8; 512], p: Place) -> usize
-    ensures { (result ≡ length (byBytes p.state p.reader [])) × (out.new ≡ filled out.old (byBytes p.state p.reader [])) }
+    ensures { (result ≡ length (by_bytes p.state p.reader [])) × (out.new ≡ filled out.old (by_bytes p.state p.reader [])) }
 {
     let state = p.state;
     let reader = p.reader;

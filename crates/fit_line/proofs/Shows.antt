@@ -14,47 +14,47 @@ use Rattle.protocol.specs.declared.Found.{Found}
 use Rattle.protocol.specs.declared.Summary.{Summary}
 use Rattle.protocol.specs.declared.Said.{Said}
 use Rattle.protocol.specs.declared.Said.TheVariants.{Ask, Fitted, Searched, Differenced, Refused}
-use Rattle.protocol.specs.Protocol.{Question, Result, replyOf}
+use Rattle.protocol.specs.Protocol.{Question, Result, reply_of}
 use Rattle.lines_buffer.specs.Texts.{filled}
-use Rattle.lines_print.specs.Print.{limitedOf, questionOf, resultOf, askText, endText, noText}
-use Rattle.fit_line.specs.Turns.{Few, replyText}
+use Rattle.lines_print.specs.Print.{limited_of, question_of, result_of, ask_text, end_text, no_text}
+use Rattle.fit_line.specs.Turns.{Few, reply_text}
 
-limited-is : (n : ℕ) → n ≤ 16 → limitedOf n ≡ n
-unfolding limitedOf
-limited-is n h = by (ltb n 16) (λ p. rw p) (λ p. rw p (let l : 16 ≤ n = ltb-false n 16 p in omega arith))
+limited_is : (n : ℕ) → n ≤ 16 → limited_of n ≡ n
+unfolding limited_of
+limited_is n h = by (ltb n 16) (λ p. rw p) (λ p. rw p (let l : 16 ≤ n = ltb-false n 16 p in omega arith))
 
 -- a text that was put is put where it is another's equal
-pub put-is : (before : List ℕ) {t u after : List ℕ} {n : ℕ} → t ≡ u → (n ≡ length t) × (after ≡ filled before t) → (n ≡ length u) × (after ≡ filled before u)
-put-is before {t} {u} {after} {n} e h = subst (λ (v : List ℕ). (n ≡ length v) × (after ≡ filled before v)) e h
+pub put_is : (before : List ℕ) {t u after : List ℕ} {n : ℕ} → t ≡ u → (n ≡ length t) × (after ≡ filled before t) → (n ≡ length u) × (after ≡ filled before u)
+put_is before {t} {u} {after} {n} e h = subst (λ (v : List ℕ). (n ≡ length v) × (after ≡ filled before v)) e h
 
-pub ask-shown : (w : Said) (n : ℕ) (x g : List Float) (number : ℕ) (kind : Kind) → w ≡ Ask number kind → Few (replyOf w n x g) n
-    → askText (questionOf number kind x n) ≡ replyText (replyOf w n x g)
-unfolding replyText replyOf
-ask-shown w n x g number kind e h =
-    let few : n ≤ 16 = subst (λ (v : Said). Few (replyOf v n x g) n) e h in
-    ap (λ (m : ℕ). let q : Question = record { number = number; kind = kind; point = first m x } in askText q) (limited-is n few)
-    ∙ sym (ap (λ (v : Said). replyText (replyOf v n x g)) e)
+pub ask_shown : (w : Said) (n : ℕ) (x g : List Float) (number : ℕ) (kind : Kind) → w ≡ Ask number kind → Few (reply_of w n x g) n
+    → ask_text (question_of number kind x n) ≡ reply_text (reply_of w n x g)
+unfolding reply_text reply_of
+ask_shown w n x g number kind e h =
+    let few : n ≤ 16 = subst (λ (v : Said). Few (reply_of v n x g) n) e h in
+    ap (λ (m : ℕ). let q : Question = record { number = number; kind = kind; point = first m x } in ask_text q) (limited_is n few)
+    ∙ sym (ap (λ (v : Said). reply_text (reply_of v n x g)) e)
 
-pub end-shown : (w : Said) (n : ℕ) (x g : List Float) (s : Summary) → w ≡ Fitted s → Few (replyOf w n x g) n → endText (resultOf s x n) ≡ replyText (replyOf w n x g)
-unfolding replyText replyOf
-end-shown w n x g s e h =
-    let few : n ≤ 16 = subst (λ (v : Said). Few (replyOf v n x g) n) e h in
+pub end_shown : (w : Said) (n : ℕ) (x g : List Float) (s : Summary) → w ≡ Fitted s → Few (reply_of w n x g) n → end_text (result_of s x n) ≡ reply_text (reply_of w n x g)
+unfolding reply_text reply_of
+end_shown w n x g s e h =
+    let few : n ≤ 16 = subst (λ (v : Said). Few (reply_of v n x g) n) e h in
     ap
     (λ (m : ℕ).
     let r : Result =
     record { reason = s.reason; converged = s.converged; iterations = s.iterations; fevals = s.fevals; gevals = s.gevals; f = s.f; x = first m x }
-    in endText r)
-    (limited-is n few)
-    ∙ sym (ap (λ (v : Said). replyText (replyOf v n x g)) e)
+    in end_text r)
+    (limited_is n few)
+    ∙ sym (ap (λ (v : Said). reply_text (reply_of v n x g)) e)
 
-pub no-shown : (w : Said) (n : ℕ) (x g : List Float) (number detail : ℕ) → w ≡ Refused number detail → noText number detail ≡ replyText (replyOf w n x g)
-unfolding replyText replyOf
-no-shown w n x g number detail e = sym (ap (λ (v : Said). replyText (replyOf v n x g)) e)
+pub no_shown : (w : Said) (n : ℕ) (x g : List Float) (number detail : ℕ) → w ≡ Refused number detail → no_text number detail ≡ reply_text (reply_of w n x g)
+unfolding reply_text reply_of
+no_shown w n x g number detail e = sym (ap (λ (v : Said). reply_text (reply_of v n x g)) e)
 
-pub search-shown : (w : Said) (n : ℕ) (x g : List Float) (f : Found) → w ≡ Searched f → [] ≡ replyText (replyOf w n x g)
-unfolding replyText replyOf
-search-shown w n x g f e = sym (ap (λ (v : Said). replyText (replyOf v n x g)) e)
+pub search_shown : (w : Said) (n : ℕ) (x g : List Float) (f : Found) → w ≡ Searched f → [] ≡ reply_text (reply_of w n x g)
+unfolding reply_text reply_of
+search_shown w n x g f e = sym (ap (λ (v : Said). reply_text (reply_of v n x g)) e)
 
-pub gradient-shown : (w : Said) (n : ℕ) (x g : List Float) → w ≡ Differenced → [] ≡ replyText (replyOf w n x g)
-unfolding replyText replyOf
-gradient-shown w n x g e = sym (ap (λ (v : Said). replyText (replyOf v n x g)) e)
+pub gradient_shown : (w : Said) (n : ℕ) (x g : List Float) → w ≡ Differenced → [] ≡ reply_text (reply_of w n x g)
+unfolding reply_text reply_of
+gradient_shown w n x g e = sym (ap (λ (v : Said). reply_text (reply_of v n x g)) e)

@@ -4,9 +4,9 @@
 
 ghost use Rattle.std.specs.Prelude.{◌≡◌, length};
 ghost use Rattle.lines_buffer.specs.Texts.{filled};
-ghost use Rattle.optim_record.specs.Record.{outcomeOf};
+ghost use Rattle.optim_record.specs.Record.{outcome_of};
 ghost use Rattle.fit_state.specs.States.{Turned};
-ghost use Rattle.fit_line.specs.Turns.{replyText, Few, dueAfter, firstOf, secondOf, secondGradientOf, startedOf, thirdOf, toldOf, heardOf};
+ghost use Rattle.fit_line.specs.Turns.{reply_text, Few, due_after, first_of, second_of, second_gradient_of, started_of, third_of, told_of, heard_of};
 
 use fit_state::{State, Turn, bad, following, form_after, kept, start};
 use lines_options::LineRead;
@@ -16,7 +16,7 @@ use protocol::Said;
 
 // Line 1.
 pub fn first(out: &mut [u8; 512], s: State, l: LineRead) -> Turn
-    ensures { Turned (firstOf s l) out.old out.new result }
+    ensures { Turned (first_of s l) out.old out.new result }
 {
     let f = lines_options::first_line(l);
     if f.ok {
@@ -32,7 +32,7 @@ pub fn first(out: &mut [u8; 512], s: State, l: LineRead) -> Turn
 
 // Line 2 of simplex.
 pub fn second(out: &mut [u8; 512], s: State, l: LineRead) -> Turn
-    ensures { Turned (secondOf s l) out.old out.new result }
+    ensures { Turned (second_of s l) out.old out.new result }
 {
     let f = lines_options::simplex_line(l);
     let options = f.options;
@@ -50,7 +50,7 @@ pub fn second(out: &mut [u8; 512], s: State, l: LineRead) -> Turn
 
 // Line 2 of bfgs and lbfgs.
 pub fn second_gradient(out: &mut [u8; 512], s: State, l: LineRead) -> Turn
-    ensures { Turned (secondGradientOf s l) out.old out.new result }
+    ensures { Turned (second_gradient_of s l) out.old out.new result }
 {
     let f = lines_options::gradient_line(l);
     let options = f.options;
@@ -68,8 +68,8 @@ pub fn second_gradient(out: &mut [u8; 512], s: State, l: LineRead) -> Turn
 
 // A reply of the engine.
 fn shown(out: &mut [u8; 512], a: Answered) -> usize
-    requires { Few (outcomeOf a).0 a.next.n }
-    ensures { (result ≡ length (replyText (outcomeOf a).0)) × (out.new ≡ filled out.old (replyText (outcomeOf a).0)) }
+    requires { Few (outcome_of a).0 a.next.n }
+    ensures { (result ≡ length (reply_text (outcome_of a).0)) × (out.new ≡ filled out.old (reply_text (outcome_of a).0)) }
 {
     let x = a.x;
     let next = a.next;
@@ -85,7 +85,7 @@ fn shown(out: &mut [u8; 512], a: Answered) -> usize
 
 // The form of the line that is due after the reply to a start: none after a refusal.
 fn due_after(a: Answered) -> u64
-    ensures { result ≡ dueAfter (outcomeOf a).0 }
+    ensures { result ≡ due_after (outcome_of a).0 }
 {
     let said = a.said;
     match said {
@@ -99,7 +99,7 @@ fn due_after(a: Answered) -> u64
 
 // The fit is started at x.
 fn started(out: &mut [u8; 512], s: State, x: &[f64]) -> Turn
-    ensures { Turned (startedOf s x.now) out.old out.new result }
+    ensures { Turned (started_of s x.now) out.old out.new result }
 {
     let a = start(s, x);
     let count = shown(out, a);
@@ -113,7 +113,7 @@ fn started(out: &mut [u8; 512], s: State, x: &[f64]) -> Turn
 
 // Line 3.
 pub fn third(out: &mut [u8; 512], s: State, l: LineRead) -> Turn
-    ensures { Turned (thirdOf s l) out.old out.new result }
+    ensures { Turned (third_of s l) out.old out.new result }
 {
     let f = lines_options::point_line(l, s.n);
     if f.ok {
@@ -126,7 +126,7 @@ pub fn third(out: &mut [u8; 512], s: State, l: LineRead) -> Turn
 
 // The engine is told an answer.
 fn told(out: &mut [u8; 512], s: State, number: u64, kind: u8, words: &[f64]) -> Turn
-    ensures { Turned (toldOf s number kind words.now) out.old out.new result }
+    ensures { Turned (told_of s number kind words.now) out.old out.new result }
 {
     let a = optim::answer(s.engine, number, kind, words);
     let count = shown(out, a);
@@ -139,7 +139,7 @@ fn told(out: &mut [u8; 512], s: State, number: u64, kind: u8, words: &[f64]) -> 
 
 // An answer.
 pub fn heard(out: &mut [u8; 512], s: State, l: LineRead) -> Turn
-    ensures { Turned (heardOf s l) out.old out.new result }
+    ensures { Turned (heard_of s l) out.old out.new result }
 {
     let f = lines_options::answer_line(l);
     if f.ok {

@@ -1,43 +1,43 @@
 -- The state of the fit program between two lines, and what several lines share. Definitions only.
 use Rattle.std.specs.Prelude.{ℕ, ◌+◌, ◌≡◌, true, false, cond, List, [], ◌∷◌, length, eqb, ltb, Float}
 use Rattle.protocol.specs.declared.Allowance.{Allowance}
-use Rattle.protocol.specs.Protocol.{Reply, simplexMark, bfgsMark}
+use Rattle.protocol.specs.Protocol.{Reply, simplex_mark, bfgs_mark}
 use Rattle.optim_record.specs.declared.Record.{Record}
-use Rattle.optim_record.specs.Record.{blankOf, noOptions, wolfeOptionsOf, noGradientOptions}
-use Rattle.optim_start.specs.Start.{simplexOf, bfgsOf, lbfgsOf}
+use Rattle.optim_record.specs.Record.{blank_of, no_options, wolfe_options_of, no_gradient_options}
+use Rattle.optim_start.specs.Start.{simplex_of, bfgs_of, lbfgs_of}
 use Rattle.lines_field.specs.Shapes.{most}
 use Rattle.lines_reader.specs.declared.Reader.{Reader}
-use Rattle.lines_reader.specs.Reader.{fedOf}
-use Rattle.lines_reader.specs.Forms.{stopped, line1, simplexLine2, gradientLine2}
+use Rattle.lines_reader.specs.Reader.{fed_of}
+use Rattle.lines_reader.specs.Forms.{stopped, line1, simplex_line2, gradient_line2}
 use Rattle.lines_buffer.specs.Texts.{filled}
-use Rattle.lines_print.specs.Print.{badText}
+use Rattle.lines_print.specs.Print.{bad_text}
 use Rattle.fit_state.specs.declared.Scan.{Scan}
 use Rattle.fit_state.specs.declared.State.{State}
 use Rattle.fit_state.specs.declared.Turn.{Turn}
 
 -- ---- states
 
-abbrev pub noAllowance : Allowance
-noAllowance = record { given = false; count = 0 }
+abbrev pub no_allowance : Allowance
+no_allowance = record { given = false; count = 0 }
 
 -- before line 1
-unfoldable pub begunOf : State
-unfolding blankOf wolfeOptionsOf
-begunOf =
+unfoldable pub begun_of : State
+unfolding blank_of wolfe_options_of
+begun_of =
     record {
       due = line1;
       number = 1;
       job = 0;
       n = 0;
-      options = noOptions;
-      gradient = noGradientOptions;
-      allowances = record { iter = noAllowance; fevals = noAllowance };
-      engine = blankOf;
+      options = no_options;
+      gradient = no_gradient_options;
+      allowances = record { iter = no_allowance; fevals = no_allowance };
+      engine = blank_of;
     }
 
 -- the number of the next line; an input of 2^64 lines is not to be had, and the number stays there
-unfoldable pub followingOf : ℕ → ℕ
-followingOf number = cond (ltb number most) (number + 1) number
+unfoldable pub following_of : ℕ → ℕ
+following_of number = cond (ltb number most) (number + 1) number
 
 -- ---- a turn: what is printed, and the next state
 
@@ -46,29 +46,29 @@ abbrev pub Turned : List ℕ × State → List ℕ → List ℕ → Turn → Typ
 Turned t before after r = (r ≡ record { count = length t.0; state = t.1 }) × (after ≡ filled before t.0)
 
 -- "`bad` and the line number for a line of another form. It stops after `bad`"
-unfoldable pub badOf : State → List ℕ × State
-badOf s = (badText s.number, record { due = stopped; number = s.number; job = s.job; n = s.n; options = s.options; gradient = s.gradient; allowances = s.allowances; engine = s.engine })
+unfoldable pub bad_of : State → List ℕ × State
+bad_of s = (bad_text s.number, record { due = stopped; number = s.number; job = s.job; n = s.n; options = s.options; gradient = s.gradient; allowances = s.allowances; engine = s.engine })
 
 -- the form of line 2, by the job that line 1 said
-unfoldable pub formAfter : ℕ → ℕ
-formAfter job = cond (eqb job simplexMark) simplexLine2 gradientLine2
+unfoldable pub form_after : ℕ → ℕ
+form_after job = cond (eqb job simplex_mark) simplex_line2 gradient_line2
 
 -- ---- a start
 
 -- the engine's reply to the start of the job at x
-unfoldable pub startOf : State → List Float → Reply × Record
-startOf s x =
-    cond (eqb s.job simplexMark) (simplexOf x s.options s.allowances)
-    (cond (eqb s.job bfgsMark) (bfgsOf x s.gradient s.allowances)
-    (lbfgsOf x s.gradient s.allowances))
+unfoldable pub start_of : State → List Float → Reply × Record
+start_of s x =
+    cond (eqb s.job simplex_mark) (simplex_of x s.options s.allowances)
+    (cond (eqb s.job bfgs_mark) (bfgs_of x s.gradient s.allowances)
+    (lbfgs_of x s.gradient s.allowances))
 
 -- seventeen words of a longer point: a list of more than sixteen is refused with 2, whatever it holds
-unfoldable pub keptOf : ℕ → ℕ
-keptOf n = cond (ltb n 17) n 17
+unfoldable pub kept_of : ℕ → ℕ
+kept_of n = cond (ltb n 17) n 17
 
 -- ---- a scan
 
 -- bytes of which the first stands at i, fed to a line up to the first line feed, or to their end
-unfoldable pub scannedOf : ℕ → List ℕ → Reader → Scan
-scannedOf i [] r = record { at = i; ended = false; reader = r }
-scannedOf i (b ∷ bs) r = cond (eqb b 10) (record { at = i + 1; ended = true; reader = r }) (scannedOf (i + 1) bs (fedOf r b))
+unfoldable pub scanned_of : ℕ → List ℕ → Reader → Scan
+scanned_of i [] r = record { at = i; ended = false; reader = r }
+scanned_of i (b ∷ bs) r = cond (eqb b 10) (record { at = i + 1; ended = true; reader = r }) (scanned_of (i + 1) bs (fed_of r b))

@@ -3,8 +3,8 @@
 #![tactic(auto)]
 
 ghost use Rattle.std.specs.Prelude.{◌≡◌, drop};
-ghost use Rattle.optim_record.specs.Record.{outcomeOf};
-ghost use Rattle.fit_state.specs.States.{Turned, begunOf, followingOf, keptOf, badOf, formAfter, startOf, scannedOf};
+ghost use Rattle.optim_record.specs.Record.{outcome_of};
+ghost use Rattle.fit_state.specs.States.{Turned, begun_of, following_of, kept_of, bad_of, form_after, start_of, scanned_of};
 
 use lines_options::Reader;
 use lines_reader::{GRADIENT_LINE2, LINE1, SIMPLEX_LINE2, STOPPED};
@@ -43,7 +43,7 @@ pub struct Scan {
 
 // The state before line 1.
 pub fn begun() -> State
-    ensures { result ≡ begunOf }
+    ensures { result ≡ begun_of }
 {
     let engine = optim::blank();
     let options = optim_record::no_options();
@@ -70,7 +70,7 @@ pub fn begun() -> State
 
 // The number of the line after this one; it stays at the largest u64.
 pub fn following(number: u64) -> u64
-    ensures { result ≡ followingOf number }
+    ensures { result ≡ following_of number }
 {
     if number < 0xffff_ffff_ffff_ffff {
         return number + 1;
@@ -80,7 +80,7 @@ pub fn following(number: u64) -> u64
 
 // How many of a point's words are lent to the engine: seventeen are as refused as more.
 pub fn kept(n: u64) -> usize
-    ensures { result ≡ keptOf n }
+    ensures { result ≡ kept_of n }
 {
     if n < 17 {
         return n as usize;
@@ -90,7 +90,7 @@ pub fn kept(n: u64) -> usize
 
 // The line is bad: the program stops.
 pub fn bad(out: &mut [u8; 512], s: State) -> Turn
-    ensures { Turned (badOf s) out.old out.new result }
+    ensures { Turned (bad_of s) out.old out.new result }
 {
     let count = lines_print::put_bad(out, s.number);
     let mut state = s;
@@ -100,7 +100,7 @@ pub fn bad(out: &mut [u8; 512], s: State) -> Turn
 
 // The form of line 2.
 pub fn form_after(job: u64) -> u64
-    ensures { result ≡ formAfter job }
+    ensures { result ≡ form_after job }
 {
     if job == SIMPLEX {
         return SIMPLEX_LINE2;
@@ -110,7 +110,7 @@ pub fn form_after(job: u64) -> u64
 
 // The engine's reply to the start of the job at x.
 pub fn start(s: State, x: &[f64]) -> Answered
-    ensures { outcomeOf result ≡ startOf s x.now }
+    ensures { outcome_of result ≡ start_of s x.now }
 {
     if s.job == SIMPLEX {
         return optim::simplex(x, s.options, s.allowances);
@@ -123,7 +123,7 @@ pub fn start(s: State, x: &[f64]) -> Answered
 
 // Feeds the bytes from a place on to the line, up to the first line feed or to their end.
 pub fn scanned(s: &[u8], from: usize, r: Reader) -> Scan
-    ensures { result ≡ scannedOf from (drop from s.now) r }
+    ensures { result ≡ scanned_of from (drop from s.now) r }
 {
     let mut reader = r;
     let mut i = from;

@@ -1,30 +1,30 @@
 -- What the program prints, part by part and step by step, is what 01 says of its lines. Statements only.
 use Rattle.std.specs.Prelude.{ℕ, ◌≤◌, ◌≡◌, true, List, [], ◌++◌}
-use Rattle.protocol.specs.Protocol.{simplexMark, lbfgsMark}
+use Rattle.protocol.specs.Protocol.{simplex_mark, lbfgs_mark}
 use Rattle.lines_reader.specs.declared.Reader.{Reader}
-use Rattle.lines_reader.specs.Forms.{lineOf, stopped, line1}
-use Rattle.lines_forms.specs.Lines.{firstLineOf}
+use Rattle.lines_reader.specs.Forms.{line_of, stopped, line1}
+use Rattle.lines_forms.specs.Lines.{first_line_of}
 use Rattle.fit_dialogue.specs.declared.Place.{Place}
 use Rattle.fit_state.specs.declared.State.{State}
-use Rattle.fit_state.specs.States.{scannedOf}
-use Rattle.fit_dialogue.specs.Program.{outputOf, byBytes, firstPlace, passedOf, scannedThen}
+use Rattle.fit_state.specs.States.{scanned_of}
+use Rattle.fit_dialogue.specs.Program.{output_of, by_bytes, first_place, passed_of, scanned_then}
 
 -- what is printed for bytes from a place on, to the end of the input
 abbrev pub from : Place → List ℕ → List ℕ
-from p bs = byBytes p.state p.reader bs
+from p bs = by_bytes p.state p.reader bs
 
 -- the mark of simplex, bfgs or lbfgs
 abbrev pub FitMark : ℕ → Type 0
-FitMark job = (simplexMark ≤ job) × (job ≤ lbfgsMark)
+FitMark job = (simplex_mark ≤ job) × (job ≤ lbfgs_mark)
 
 -- of every input, and of every part of it at every place
 pub record ProgramLaws : Type 0 where
-  pub whole : (bs : List ℕ) → from firstPlace bs ≡ outputOf bs
+  pub whole : (bs : List ℕ) → from first_place bs ≡ output_of bs
   -- a part, and then the rest
-  pub part-goes : (p : Place) (bs cs : List ℕ) → from p (bs ++ cs) ≡ (passedOf p bs).0 ++ from (passedOf p bs).1 cs
+  pub part_goes : (p : Place) (bs cs : List ℕ) → from p (bs ++ cs) ≡ (passed_of p bs).0 ++ from (passed_of p bs).1 cs
   -- a step, and then the rest of the part
-  pub step-goes : (p : Place) (i : ℕ) (bs : List ℕ) → passedOf p bs ≡ scannedThen p i bs (scannedOf i bs p.reader)
+  pub step_goes : (p : Place) (i : ℕ) (bs : List ℕ) → passed_of p bs ≡ scanned_then p i bs (scanned_of i bs p.reader)
   -- "It stops after `bad`, a refused start": nothing more is printed
-  pub silent : (s : State) (r : Reader) (bs : List ℕ) → s.due ≡ stopped → byBytes s r bs ≡ []
+  pub silent : (s : State) (r : Reader) (bs : List ℕ) → s.due ≡ stopped → by_bytes s r bs ≡ []
   -- line 1 has one of three jobs: what is neither simplex nor bfgs is lbfgs
-  pub jobs : (bs : List ℕ) → (firstLineOf (lineOf line1 bs)).ok ≡ true → FitMark (firstLineOf (lineOf line1 bs)).job
+  pub jobs : (bs : List ℕ) → (first_line_of (line_of line1 bs)).ok ≡ true → FitMark (first_line_of (line_of line1 bs)).job

@@ -12,16 +12,16 @@ use lib.Ieee.Compare.{differs_from_itself}
 use lib.Ieee.Scale.{finite}
 use lib.Bits.{bit_and, and_mask}
 use borrow.Author.Tests.{lt-ltb, eq-eqb}
-use Rattle.float.specs.Binary64.{F64, Number, negative, bits, plusZero}
-use Rattle.float.specs.Values.{absOf, finiteOf, signumOf}
+use Rattle.float.specs.Binary64.{F64, Number, negative, bits, plus_zero}
+use Rattle.float.specs.Values.{abs_of, finite_of, signum_of}
 
 -- that a parameter is an f64, from what a function knows of it
 pub held : {b : Bool} → b ≡ true → T b
 held e = subst T (sym e) tt
 
 -- ---- a NaN is what differs from itself
-pub is-nan : (x : Float) → ne x x ≡ true → x ≡ nan
-is-nan x e = differs_from_itself x (subst T (sym e) tt)
+pub is_nan_lem : (x : Float) → ne x x ≡ true → x ≡ nan
+is_nan_lem x e = differs_from_itself x (subst T (sym e) tt)
 
 pub number : (x : Float) → ne x x ≡ false → Number x
 unfolding is_nan ne
@@ -30,88 +30,88 @@ number (inf s) e = tt
 number (fin s m d) e = tt
 
 -- a definition's `is_nan x` where the code has tested `x != x`
-pub nan-test : (x : Float) → is_nan x ≡ ne x x
+pub nan_test : (x : Float) → is_nan x ≡ ne x x
 unfolding is_nan ne
-nan-test nan = refl
-nan-test (inf true) = refl
-nan-test (inf false) = refl
-nan-test (fin true m e) = rw (eq-eqb (m * up e * down e) (m * up e * down e) refl)
-nan-test (fin false m e) = rw (eq-eqb (m * up e * down e) (m * up e * down e) refl)
+nan_test nan = refl
+nan_test (inf true) = refl
+nan_test (inf false) = refl
+nan_test (fin true m e) = rw (eq-eqb (m * up e * down e) (m * up e * down e) refl)
+nan_test (fin false m e) = rw (eq-eqb (m * up e * down e) (m * up e * down e) refl)
 
 -- a pattern above the infinity's, but for the sign, is a NaN's
-pub nan-above : (b : ℕ) → 0x7ff0_0000_0000_0000 < b % 2 ^ 63 → bits b ≡ nan
-nan-above b h =
-    is-nan (bits b)
-    (sym (nan-test (bits b)) ∙ sym (nan_bits_is binary64 b) ∙ nan_bits_above binary64 b ∙ lt-ltb 0x7ff0_0000_0000_0000 (b % 2 ^ 63) h)
+pub nan_above : (b : ℕ) → 0x7ff0_0000_0000_0000 < b % 2 ^ 63 → bits b ≡ nan
+nan_above b h =
+    is_nan_lem (bits b)
+    (sym (nan_test (bits b)) ∙ sym (nan_bits_is binary64 b) ∙ nan_bits_above binary64 b ∙ lt-ltb 0x7ff0_0000_0000_0000 (b % 2 ^ 63) h)
 
 -- ---- the bits of finite values and of infinities
-pub sign-apart : (s : Bool) (m : ℕ) (e : ℤ) → to_bits binary64 (fin s m e) ≡ cond s (2 ^ 63) 0 + to_bits binary64 (fin false m e)
+pub sign_apart : (s : Bool) (m : ℕ) (e : ℤ) → to_bits binary64 (fin s m e) ≡ cond s (2 ^ 63) 0 + to_bits binary64 (fin false m e)
 unfolding to_bits
-sign-apart s m e = simp (add_assoc, zero-add)
+sign_apart s m e = simp (add_assoc, zero-add)
 
-pub fits-bare : (s t : Bool) (m : ℕ) (e : ℤ) → F64 (fin s m e) → F64 (fin t m e)
+pub fits_bare : (s t : Bool) (m : ℕ) (e : ℤ) → F64 (fin s m e) → F64 (fin t m e)
 unfolding fits
-fits-bare s t zero e h = h
-fits-bare s t (suc m) e h = h
+fits_bare s t zero e h = h
+fits_bare s t (suc m) e h = h
 
-top-field : (s : Bool) (t : ℕ) → finite (of_fields binary64 s 2047 t) ≡ false
+top_field : (s : Bool) (t : ℕ) → finite (of_fields binary64 s 2047 t) ≡ false
 unfolding of_fields
-top-field s zero = refl
-top-field s (suc t) = rw eqb-suc-zero
+top_field s zero = refl
+top_field s (suc t) = rw eqb-suc-zero
 
-not-finite : (b : ℕ) → 0x7ff0_0000_0000_0000 ≤ b → b < 2 ^ 63 → finite (bits b) ≡ false
+not_finite_lem : (b : ℕ) → 0x7ff0_0000_0000_0000 ≤ b → b < 2 ^ 63 → finite (bits b) ≡ false
 unfolding of_bits
-not-finite b l h =
+not_finite_lem b l h =
     let field : b % top binary64 / hid binary64 ≡ 2047 = omega arith in
-    rw field (top-field (leb (top binary64) b) (b % hid binary64))
+    rw field (top_field (leb (top binary64) b) (b % hid binary64))
 
-bare-in : (m : ℕ) (e : ℤ) → F64 (fin false m e) → to_bits binary64 (fin false m e) < 2 ^ 63
-bare-in m e h = omega (arith, to_bits-lt binary64 (fin true m e) (fits-bare false true m e h), sign-apart true m e)
+bare_in : (m : ℕ) (e : ℤ) → F64 (fin false m e) → to_bits binary64 (fin false m e) < 2 ^ 63
+bare_in m e h = omega (arith, to_bits-lt binary64 (fin true m e) (fits_bare false true m e h), sign_apart true m e)
 
 -- a finite magnitude's bits are below the infinity's
-pub bare-lt : (m : ℕ) (e : ℤ) → F64 (fin false m e) → to_bits binary64 (fin false m e) < 0x7ff0_0000_0000_0000
-bare-lt m e h = lt_of_not-le (λ g. true≢false (ap finite (sym (of_bits-to_bits binary64 (fin false m e) h)) ∙ not-finite (to_bits binary64 (fin false m e)) g (bare-in m e h)))
+pub bare_lt : (m : ℕ) (e : ℤ) → F64 (fin false m e) → to_bits binary64 (fin false m e) < 0x7ff0_0000_0000_0000
+bare_lt m e h = lt_of_not-le (λ g. true≢false (ap finite (sym (of_bits-to_bits binary64 (fin false m e) h)) ∙ not_finite_lem (to_bits binary64 (fin false m e)) g (bare_in m e h)))
 
-pub inf-bits : (s : Bool) → to_bits binary64 (inf s) ≡ cond s (2 ^ 63) 0 + 0x7ff0_0000_0000_0000
+pub inf_bits : (s : Bool) → to_bits binary64 (inf s) ≡ cond s (2 ^ 63) 0 + 0x7ff0_0000_0000_0000
 unfolding to_bits
-inf-bits s = refl
+inf_bits s = refl
 
-pub zero-is : bits 0 ≡ plusZero
+pub zero_is : bits 0 ≡ plus_zero
 unfolding of_bits
-zero-is = refl
+zero_is = refl
 
 -- only a zero's magnitude has no bit set
-pub zero-bits : (m : ℕ) (e : ℤ) → F64 (fin false m e) → to_bits binary64 (fin false m e) ≡ 0 → m ≡ 0
-zero-bits m e f z =
-    let same : fin false m e ≡ plusZero = sym (of_bits-to_bits binary64 (fin false m e) f) ∙ ap bits z ∙ zero-is in
+pub zero_bits : (m : ℕ) (e : ℤ) → F64 (fin false m e) → to_bits binary64 (fin false m e) ≡ 0 → m ≡ 0
+zero_bits m e f z =
+    let same : fin false m e ≡ plus_zero = sym (of_bits-to_bits binary64 (fin false m e) f) ∙ ap bits z ∙ zero_is in
     cc
 
 -- ---- a number's bits are its sign's and those of |x|
-pub abs-fits : (x : Float) → F64 x → F64 (absOf x)
-unfolding absOf fits
-abs-fits nan f = tt
-abs-fits (inf s) f = tt
-abs-fits (fin s m e) f = fits-bare s false m e f
+pub abs_fits : (x : Float) → F64 x → F64 (abs_of x)
+unfolding abs_of fits
+abs_fits nan f = tt
+abs_fits (inf s) f = tt
+abs_fits (fin s m e) f = fits_bare s false m e f
 
-abs-number : (x : Float) → Number x → Number (absOf x)
-unfolding absOf is_nan
-abs-number nan h = h
-abs-number (inf s) h = tt
-abs-number (fin s m e) h = tt
+abs_number : (x : Float) → Number x → Number (abs_of x)
+unfolding abs_of is_nan
+abs_number nan h = h
+abs_number (inf s) h = tt
+abs_number (fin s m e) h = tt
 
 -- |x| in bits: at most the infinity's
-pub abs-most : (x : Float) → F64 x → Number x → to_bits binary64 (absOf x) ≤ 0x7ff0_0000_0000_0000
-unfolding is_nan absOf
-abs-most nan f h = absurd h
-abs-most (inf s) f h = omega (arith, inf-bits false)
-abs-most (fin s m e) f h = omega (arith, bare-lt m e (fits-bare s false m e f))
+pub abs_most : (x : Float) → F64 x → Number x → to_bits binary64 (abs_of x) ≤ 0x7ff0_0000_0000_0000
+unfolding is_nan abs_of
+abs_most nan f h = absurd h
+abs_most (inf s) f h = omega (arith, inf_bits false)
+abs_most (fin s m e) f h = omega (arith, bare_lt m e (fits_bare s false m e f))
 
-pub parted : (x : Float) → Number x → to_bits binary64 x ≡ cond (negative x) (2 ^ 63) 0 + to_bits binary64 (absOf x)
-unfolding is_nan absOf
+pub parted : (x : Float) → Number x → to_bits binary64 x ≡ cond (negative x) (2 ^ 63) 0 + to_bits binary64 (abs_of x)
+unfolding is_nan abs_of
 parted nan h = absurd h
-parted (inf true) h = omega (arith, inf-bits true, inf-bits false)
-parted (inf false) h = omega (arith, inf-bits false)
-parted (fin s m e) h = sign-apart s m e
+parted (inf true) h = omega (arith, inf_bits true, inf_bits false)
+parted (inf false) h = omega (arith, inf_bits false)
+parted (fin s m e) h = sign_apart s m e
 
 -- so a mask takes the sign off, and a shift leaves it alone
 off : (s : Bool) (n a : ℕ) → a ≡ cond s (2 ^ 63) 0 + n → n ≤ 0x7ff0_0000_0000_0000 → a % 2 ^ 63 ≡ n
@@ -122,59 +122,59 @@ alone : (s : Bool) (n a : ℕ) → a ≡ cond s (2 ^ 63) 0 + n → n ≤ 0x7ff0_
 alone true n a e h = omega arith
 alone false n a e h = omega arith
 
-pub magnitude : (x : Float) → F64 x → Number x → bit_and (to_bits binary64 x) 0x7fff_ffff_ffff_ffff ≡ to_bits binary64 (absOf x)
-magnitude x f h = and_mask (to_bits binary64 x) 63 ∙ off (negative x) (to_bits binary64 (absOf x)) (to_bits binary64 x) (parted x h) (abs-most x f h)
+pub magnitude : (x : Float) → F64 x → Number x → bit_and (to_bits binary64 x) 0x7fff_ffff_ffff_ffff ≡ to_bits binary64 (abs_of x)
+magnitude x f h = and_mask (to_bits binary64 x) 63 ∙ off (negative x) (to_bits binary64 (abs_of x)) (to_bits binary64 x) (parted x h) (abs_most x f h)
 
-pub sign-bit : (x : Float) → F64 x → Number x → to_bits binary64 x / 2 ^ 63 ≡ cond (negative x) 1 0
-sign-bit x f h = alone (negative x) (to_bits binary64 (absOf x)) (to_bits binary64 x) (parted x h) (abs-most x f h)
+pub sign_bit : (x : Float) → F64 x → Number x → to_bits binary64 x / 2 ^ 63 ≡ cond (negative x) 1 0
+sign_bit x f h = alone (negative x) (to_bits binary64 (abs_of x)) (to_bits binary64 x) (parted x h) (abs_most x f h)
 
 -- the sign by its bit, as a test leaves it
 pub plus : (x : Float) → F64 x → Number x → to_bits binary64 x / 2 ^ 63 ≡ 0 → negative x ≡ false
-plus x f h z = go (negative x) (sym (sign-bit x f h) ∙ z)
+plus x f h z = go (negative x) (sym (sign_bit x f h) ∙ z)
   where
     go : (s : Bool) → ◌≡◌ {A = ℕ} (cond s 1 0) 0 → s ≡ false
     go true e = absurd (omega arith)
     go false e = refl
 
 pub minus : (x : Float) → F64 x → Number x → (to_bits binary64 x / 2 ^ 63 ≡ 0 → ⊥) → negative x ≡ true
-minus x f h n = go (negative x) (sign-bit x f h)
+minus x f h n = go (negative x) (sign_bit x f h)
   where
     go : (s : Bool) → to_bits binary64 x / 2 ^ 63 ≡ cond s 1 0 → s ≡ true
     go true e = refl
     go false e = absurd (n e)
 
 -- ---- |x| and finiteness
-pub abs-is : (x : Float) → F64 x → Number x → bits (bit_and (to_bits binary64 x) 0x7fff_ffff_ffff_ffff) ≡ absOf x
-abs-is x f h = rw (magnitude x f h) (of_bits-to_bits binary64 (absOf x) (abs-fits x f))
+pub abs_is : (x : Float) → F64 x → Number x → bits (bit_and (to_bits binary64 x) 0x7fff_ffff_ffff_ffff) ≡ abs_of x
+abs_is x f h = rw (magnitude x f h) (of_bits-to_bits binary64 (abs_of x) (abs_fits x f))
 
-pub abs-no-nan : (x : Float) → F64 x → Number x → T (not (nan_bits binary64 (bit_and (to_bits binary64 x) 0x7fff_ffff_ffff_ffff)))
-abs-no-nan x f h = rw (nan_bits_is, abs-is x f h) (abs-number x h)
+pub abs_no_nan : (x : Float) → F64 x → Number x → T (not (nan_bits binary64 (bit_and (to_bits binary64 x) 0x7fff_ffff_ffff_ffff)))
+abs_no_nan x f h = rw (nan_bits_is, abs_is x f h) (abs_number x h)
 
 -- the exponent's field
-pub exponent : (x : Float) → F64 x → Number x → bit_and (to_bits binary64 x / 2 ^ 52) 0x7ff ≡ to_bits binary64 (absOf x) / 2 ^ 52
+pub exponent : (x : Float) → F64 x → Number x → bit_and (to_bits binary64 x / 2 ^ 52) 0x7ff ≡ to_bits binary64 (abs_of x) / 2 ^ 52
 exponent x f h =
-    let low : to_bits binary64 x % 2 ^ 63 ≡ to_bits binary64 (absOf x) = off (negative x) (to_bits binary64 (absOf x)) (to_bits binary64 x) (parted x h) (abs-most x f h) in
+    let low : to_bits binary64 x % 2 ^ 63 ≡ to_bits binary64 (abs_of x) = off (negative x) (to_bits binary64 (abs_of x)) (to_bits binary64 x) (parted x h) (abs_most x f h) in
     and_mask (to_bits binary64 x / 2 ^ 52) 11 ∙ omega arith
 
-pub finite-is : (x : Float) → F64 x → Number x → ltb (bit_and (to_bits binary64 x / 2 ^ 52) 0x7ff) 0x7ff ≡ finiteOf x
-finite-is x f h = rw (exponent x f h) (go x f h)
+pub finite_is : (x : Float) → F64 x → Number x → ltb (bit_and (to_bits binary64 x / 2 ^ 52) 0x7ff) 0x7ff ≡ finite_of x
+finite_is x f h = rw (exponent x f h) (go x f h)
   where
-    go : (y : Float) → F64 y → Number y → ltb (to_bits binary64 (absOf y) / 2 ^ 52) 0x7ff ≡ finiteOf y
+    go : (y : Float) → F64 y → Number y → ltb (to_bits binary64 (abs_of y) / 2 ^ 52) 0x7ff ≡ finite_of y
     go nan f h = absurd (unfold is_nan in h)
-    go (inf s) f h = unfold absOf to_bits finiteOf in refl
+    go (inf s) f h = unfold abs_of to_bits finite_of in refl
     go (fin s m e) f h =
-        let l = bare-lt m e (fits-bare s false m e f) in
-        unfold absOf finiteOf in lt-ltb (to_bits binary64 (fin false m e) / 2 ^ 52) 0x7ff (omega arith)
+        let l = bare_lt m e (fits_bare s false m e f) in
+        unfold abs_of finite_of in lt-ltb (to_bits binary64 (fin false m e) / 2 ^ 52) 0x7ff (omega arith)
 
 -- ---- the sign as a number
-signum-of : (x : Float) → Number x → signumOf x ≡ fin (negative x) 1 (pos 0)
-unfolding is_nan signumOf
-signum-of nan h = absurd h
-signum-of (inf s) h = refl
-signum-of (fin s m e) h = refl
+signum_of_lem : (x : Float) → Number x → signum_of x ≡ fin (negative x) 1 (pos 0)
+unfolding is_nan signum_of
+signum_of_lem nan h = absurd h
+signum_of_lem (inf s) h = refl
+signum_of_lem (fin s m e) h = refl
 
-pub signum-plus : (x : Float) → F64 x → Number x → to_bits binary64 x / 2 ^ 63 ≡ 0 → fin false 1 (pos 0) ≡ signumOf x
-signum-plus x f h z = sym (signum-of x h ∙ ap (λ (s : Bool). fin s 1 (pos 0)) (plus x f h z))
+pub signum_plus : (x : Float) → F64 x → Number x → to_bits binary64 x / 2 ^ 63 ≡ 0 → fin false 1 (pos 0) ≡ signum_of x
+signum_plus x f h z = sym (signum_of_lem x h ∙ ap (λ (s : Bool). fin s 1 (pos 0)) (plus x f h z))
 
-pub signum-minus : (x : Float) → F64 x → Number x → (to_bits binary64 x / 2 ^ 63 ≡ 0 → ⊥) → fin true 1 (pos 0) ≡ signumOf x
-signum-minus x f h z = sym (signum-of x h ∙ ap (λ (s : Bool). fin s 1 (pos 0)) (minus x f h z))
+pub signum_minus : (x : Float) → F64 x → Number x → (to_bits binary64 x / 2 ^ 63 ≡ 0 → ⊥) → fin true 1 (pos 0) ≡ signum_of x
+signum_minus x f h z = sym (signum_of_lem x h ∙ ap (λ (s : Bool). fin s 1 (pos 0)) (minus x f h z))

@@ -40,8 +40,8 @@ x ⊘ y = div binary64 x y
 abbrev pub bits : ℕ → Float
 bits b = of_bits binary64 b
 
-abbrev pub plusZero : Float
-plusZero = fin false 0 (pos 0)
+abbrev pub plus_zero : Float
+plus_zero = fin false 0 (pos 0)
 
-abbrev pub minusZero : Float
-minusZero = fin true 0 (pos 0)
+abbrev pub minus_zero : Float
+minus_zero = fin true 0 (pos 0)

@@ -12,14 +12,14 @@ abbrev pub quanta : ℕ → ℤ → ℕ
 quanta m e = m * up e * 2 ^ 1074 / down e
 
 -- the same of a value
-abbrev pub quantaOf : Float → ℕ
-quantaOf nan = 0
-quantaOf (inf s) = 0
-quantaOf (fin s m e) = quanta m e
+abbrev pub quanta_of : Float → ℕ
+quanta_of nan = 0
+quanta_of (inf s) = 0
+quanta_of (fin s m e) = quanta m e
 
 -- (2 Y) ^ p, where the p-th root of X quanta is Y quanta: Y ^ p is X * 2 ^ (1074 (p - 1))
-abbrev pub twiceRoot : ℕ → ℕ → ℕ
-twiceRoot p X = 2 ^ p * (X * 2 ^ (1074 * (p - 1)))
+abbrev pub twice_root : ℕ → ℕ → ℕ
+twice_root p X = 2 ^ p * (X * 2 ^ (1074 * (p - 1)))
 
 -- r is the value of binary64 nearest to the exact p-th root of x, a finite number above zero.
 -- In quanta x is X, r is R, and any other value that is not below zero, z = m * 2 ^ e, is Z. The root Y is nearer to R than to Z where it lies on R's
@@ -27,9 +27,9 @@ twiceRoot p X = 2 ^ p * (X * 2 ^ (1074 * (p - 1)))
 -- near as r, and no tie is left to be broken. A value below zero is farther from Y than +0 is.
 pub record NearestRoot (p : ℕ) (x r : Float) : Type 0 where
   pub value : F64 r
-  pub above-zero : T (positive r)
-  pub from-larger : (m : ℕ) (e : ℤ) → F64 (fin false m e) → quantaOf r < quanta m e → twiceRoot p (quantaOf x) < (quantaOf r + quanta m e) ^ p
-  pub from-smaller : (m : ℕ) (e : ℤ) → F64 (fin false m e) → quanta m e < quantaOf r → (quantaOf r + quanta m e) ^ p < twiceRoot p (quantaOf x)
+  pub above_zero : T (positive r)
+  pub from_larger : (m : ℕ) (e : ℤ) → F64 (fin false m e) → quanta_of r < quanta m e → twice_root p (quanta_of x) < (quanta_of r + quanta m e) ^ p
+  pub from_smaller : (m : ℕ) (e : ℤ) → F64 (fin false m e) → quanta m e < quanta_of r → (quanta_of r + quanta m e) ^ p < twice_root p (quanta_of x)
 
 -- squareRoot(x) is r: a NaN for a NaN, for -infinity and below zero (7.2), a zero for itself (6.3), +infinity for itself (6.1)
 abbrev pub SquareRoot : Float → Float → Type 0
@@ -45,5 +45,5 @@ abbrev pub CubeRoot : Float → Type 0
 CubeRoot r = NearestRoot 3 (fin false 1 (negsuc 51)) r
 
 -- c, the factor of the difference step: 7149018786131517 * 2 ^ -70
-abbrev pub differenceFactor : Float
-differenceFactor = fin false 7149018786131517 (negsuc 69)
+abbrev pub difference_factor : Float
+difference_factor = fin false 7149018786131517 (negsuc 69)

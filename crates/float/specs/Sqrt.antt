@@ -21,29 +21,29 @@ abbrev pub quads : ℕ → ℕ
 quads n = (size n + 1) / 2
 
 -- the 53 digits of the root of n, which has p digits to the base 4
-abbrev pub rootDigits : ℕ → ℕ → ℕ
-rootDigits n p = (isqrt 54 (n * 4 ^ 54 / 4 ^ p) + 1) / 2
+abbrev pub root_digits : ℕ → ℕ → ℕ
+root_digits n p = (isqrt 54 (n * 4 ^ 54 / 4 ^ p) + 1) / 2
 
 -- the root of n quanta, as a value
-unfoldable pub rootOf : ℕ → Float
+unfoldable pub root_of : ℕ → Float
 unfolding isqrt size odd
-rootOf n = odd 53 false (rootDigits n (quads n)) (quads n + 484) 1074
+root_of n = odd 53 false (root_digits n (quads n)) (quads n + 484) 1074
 
 -- `f64::sqrt`
-unfoldable pub sqrtOf : Float → Float
-unfolding rootOf
-sqrtOf nan = nan
-sqrtOf (inf true) = nan
-sqrtOf (inf false) = inf false
-sqrtOf (fin s zero e) = fin s zero e
-sqrtOf (fin true (suc m) e) = nan
-sqrtOf (fin false (suc m) e) = rootOf (quanta (suc m) e)
+unfoldable pub sqrt_of : Float → Float
+unfolding root_of
+sqrt_of nan = nan
+sqrt_of (inf true) = nan
+sqrt_of (inf false) = inf false
+sqrt_of (fin s zero e) = fin s zero e
+sqrt_of (fin true (suc m) e) = nan
+sqrt_of (fin false (suc m) e) = root_of (quanta (suc m) e)
 
 -- ---- what the parts of the code show of each other
 
 -- the guess at the root of w, a number of 59 or 60 binary digits
-abbrev pub guessOf : ℕ → ℕ
-guessOf w = 278_750_000 + w / 2 ^ 44 * (1_100_000 - w / 2 ^ 44 * 5) / 64
+abbrev pub guess_of : ℕ → ℕ
+guess_of w = 278_750_000 + w / 2 ^ 44 * (1_100_000 - w / 2 ^ 44 * 5) / 64
 
 -- r, of at most 32 binary digits, is not below the integer square root of n
 pub record NotBelowRoot (n r : ℕ) : Type 0 where
@@ -51,8 +51,8 @@ pub record NotBelowRoot (n r : ℕ) : Type 0 where
   pub most : n < (r + 1) * (r + 1)
 
 -- how many quanta the bits b of a finite value that is not negative stand for
-abbrev pub quantaOfBits : ℕ → ℕ
-quantaOfBits b = cond (ltb b (2 ^ 52)) b ((2 ^ 52 + b % 2 ^ 52) * 2 ^ (b / 2 ^ 52 - 1))
+abbrev pub quanta_of_bits : ℕ → ℕ
+quanta_of_bits b = cond (ltb b (2 ^ 52)) b ((2 ^ 52 + b % 2 ^ 52) * 2 ^ (b / 2 ^ 52 - 1))
 
 -- the bits b stand for m * 2 ^ (e - 1024) quanta, with a significand m of full width
 pub record FullWidth (b m e : ℕ) : Type 0 where
@@ -60,4 +60,4 @@ pub record FullWidth (b m e : ℕ) : Type 0 where
   pub most : m < 2 ^ 53
   pub from : 972 ≤ e
   pub to : e < 3070
-  pub same : quantaOfBits b * 2 ^ 1024 ≡ m * 2 ^ e
+  pub same : quanta_of_bits b * 2 ^ 1024 ≡ m * 2 ^ e

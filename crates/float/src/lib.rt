@@ -4,10 +4,10 @@
 
 ghost use Rattle.std.specs.Prelude.{◌≡◌, ◌*◌, ◌^◌, ◌≤◌, ◌<◌};
 ghost use Rattle.std.specs.Float.Ieee.{lt};
-ghost use Rattle.float.specs.Values.{absOf, finiteOf, signumOf, maxOf, minOf, toleranceOf, positiveOf};
-ghost use Rattle.float.specs.Order.{rankOf, keyOf, precedesOf};
-ghost use Rattle.float.specs.Roots.{differenceFactor};
-ghost use Rattle.float.specs.Sqrt.{sqrtOf, rootOf, quantaOfBits, IntegerRoot, guessOf, NotBelowRoot, FullWidth};
+ghost use Rattle.float.specs.Values.{abs_of, finite_of, signum_of, max_of, min_of, tolerance_of, positive_of};
+ghost use Rattle.float.specs.Order.{rank_of, key_of, precedes_of};
+ghost use Rattle.float.specs.Roots.{difference_factor};
+ghost use Rattle.float.specs.Sqrt.{sqrt_of, root_of, quanta_of_bits, IntegerRoot, guess_of, NotBelowRoot, FullWidth};
 
 // All bits but the sign's.
 const MAGNITUDE: u64 = 0x7fff_ffff_ffff_ffff;
@@ -17,7 +17,7 @@ const FRACTION: u64 = 0x000f_ffff_ffff_ffff;
 const TOP: u64 = 0x7ff;
 
 pub fn abs(x: f64) -> f64
-    ensures { result ≡ absOf x }
+    ensures { result ≡ abs_of x }
 {
     if x != x {
         return x;
@@ -26,7 +26,7 @@ pub fn abs(x: f64) -> f64
 }
 
 pub fn is_finite(x: f64) -> bool
-    ensures { result ≡ finiteOf x }
+    ensures { result ≡ finite_of x }
 {
     if x != x {
         return false;
@@ -36,7 +36,7 @@ pub fn is_finite(x: f64) -> bool
 
 // What a tolerance may be: neither negative nor not finite.
 pub fn tolerance(x: f64) -> bool
-    ensures { result ≡ toleranceOf x }
+    ensures { result ≡ tolerance_of x }
 {
     if 0.0 <= x {
         return is_finite(x);
@@ -45,7 +45,7 @@ pub fn tolerance(x: f64) -> bool
 }
 
 pub fn positive(x: f64) -> bool
-    ensures { result ≡ positiveOf x }
+    ensures { result ≡ positive_of x }
 {
     if 0.0 < x {
         return is_finite(x);
@@ -54,7 +54,7 @@ pub fn positive(x: f64) -> bool
 }
 
 pub fn signum(x: f64) -> f64
-    ensures { result ≡ signumOf x }
+    ensures { result ≡ signum_of x }
 {
     if x != x {
         return x;
@@ -68,7 +68,7 @@ pub fn signum(x: f64) -> f64
 
 // The bits of |x| with the sign of x, by which numbers compare as `<` has them.
 fn rank(x: f64) -> i64
-    ensures { result ≡ rankOf x }
+    ensures { result ≡ rank_of x }
 {
     if x != x {
         return 0x7fff_ffff_ffff_ffff;
@@ -92,7 +92,7 @@ fn less(a: f64, b: f64) -> bool
 }
 
 pub fn max(a: f64, b: f64) -> f64
-    ensures { result ≡ maxOf a b }
+    ensures { result ≡ max_of a b }
 {
     if a != a {
         return b;
@@ -101,7 +101,7 @@ pub fn max(a: f64, b: f64) -> f64
 }
 
 pub fn min(a: f64, b: f64) -> f64
-    ensures { result ≡ minOf a b }
+    ensures { result ≡ min_of a b }
 {
     if a != a {
         return b;
@@ -111,7 +111,7 @@ pub fn min(a: f64, b: f64) -> f64
 
 // The key of `total_cmp`.
 pub fn key(x: f64) -> i64
-    ensures { result ≡ keyOf x }
+    ensures { result ≡ key_of x }
 {
     if x != x {
         return 0x7fff_ffff_ffff_ffff;
@@ -123,14 +123,14 @@ pub fn key(x: f64) -> i64
 
 // Whether a comes before b in IEEE 754's total order: -0.0 before +0.0, a NaN last.
 pub fn precedes(a: f64, b: f64) -> bool
-    ensures { result ≡ precedesOf a b }
+    ensures { result ≡ precedes_of a b }
 {
     key(a) < key(b)
 }
 
 // c, the f64 nearest the cube root of 2^-52.
 pub fn difference_factor() -> f64
-    ensures { result ≡ differenceFactor }
+    ensures { result ≡ difference_factor }
 {
     f64::from_bits(0x3ed9_65fe_a53d_6e3d)
 }
@@ -168,7 +168,7 @@ fn full_width(b: u64) -> Scaled
 // A guess at the root of w: a parabola of the highest 16 of its 60 bits, less than 1 in 100 away.
 fn guess(w: u64) -> u64
     requires { w < 2 ^ 60 }
-    ensures { result ≡ guessOf w }
+    ensures { result ≡ guess_of w }
 {
     let x = w >> 44;
     278_750_000 + x * (1_100_000 - x * 5) / 64
@@ -218,7 +218,7 @@ fn integer_root(w: u64) -> u64
 fn positive_root(b: u64) -> f64
     requires b_nonzero { 0 < b }
     requires b_bound { b < 0x7ff0_0000_0000_0000 }
-    ensures { result ≡ rootOf (quantaOfBits b) }
+    ensures { result ≡ root_of (quanta_of_bits b) }
 {
     let p = full_width(b);
     let w = p.m << (6 + p.e % 2);
@@ -227,7 +227,7 @@ fn positive_root(b: u64) -> f64
 }
 
 pub fn sqrt(x: f64) -> f64
-    ensures { result ≡ sqrtOf x }
+    ensures { result ≡ sqrt_of x }
 {
     if x != x {
         return x;

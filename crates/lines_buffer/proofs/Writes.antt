@@ -1,7 +1,7 @@
 -- What stands in a buffer after a store, after one write and another, and after digits put from the last to the first. Assumes nothing.
 use Prim.Native.Nat.{ℕ, zero, suc, ◌+◌, ◌-◌, ◌/◌, ◌%◌, ◌≤◌, ◌<◌}
 use mathlib.Core.Path.{◌≡◌, refl, sym, ap, ◌∙◌, subst}
-use mathlib.Core.List.{List, [], ◌∷◌, ◌++◌, append_assoc, append-nil}
+use mathlib.Core.List.{List, [], ◌∷◌, ◌++◌, append_assoc, append_nil}
 use native.Mathlib.Omega.{arith}
 use native.Mathlib.Numerals.{add-one, sub-one}
 use lib.ListN.{length, take, drop, set, get_or, length-append, length-set, take-append-drop}
@@ -10,7 +10,7 @@ use lib.Ieee.{Float}
 use borrow.Author.Tests.{lt-ltb, le-ltb}
 use Rattle.vector.specs.Loops.{at}
 use Rattle.vector.specs.Lists.{first}
-use Rattle.lines_buffer.specs.Texts.{Written, filled, glyphOf, numeral, placesFrom, valueText, valuesText}
+use Rattle.lines_buffer.specs.Texts.{Written, filled, glyph_of, numeral, places_from, value_text, values_text}
 
 -- what stands past a place stands past a later one
 later : (b a : List ℕ) (p q : ℕ) → p ≤ q → drop p a ≡ drop p b → drop q a ≡ drop q b
@@ -18,12 +18,12 @@ later b a p q h e =
     let sum : q ≡ p + (q - p) = omega arith in
     rw sum (sym (drop-drop (q - p) p a) ∙ ap (λ (l : List ℕ). drop (q - p) l) e ∙ drop-drop (q - p) p b)
 
-pub wrote-none : (a : List ℕ) (at : ℕ) → Written a at a at []
-wrote-none a at = record { long = refl; place = omega arith; bytes = sym (append-nil (take at a)); rest = refl }
+pub wrote_none : (a : List ℕ) (at : ℕ) → Written a at a at []
+wrote_none a at = record { long = refl; place = omega arith; bytes = sym (append_nil (take at a)); rest = refl }
 
 -- one byte more
-pub wrote-more : {b a : List ℕ} {at p : ℕ} {t : List ℕ} → Written b at a p t → (x : ℕ) → p < length a → Written b at (set a p x) (p + 1) (t ++ (x ∷ []))
-wrote-more {b} {a} {at} {p} {t} w x h =
+pub wrote_more : {b a : List ℕ} {at p : ℕ} {t : List ℕ} → Written b at a p t → (x : ℕ) → p < length a → Written b at (set a p x) (p + 1) (t ++ (x ∷ []))
+wrote_more {b} {a} {at} {p} {t} w x h =
     record {
       long = length-set a p x ∙ w.long;
       place = omega (arith, w.place, length-append t (x ∷ []));
@@ -41,8 +41,8 @@ then {b} {a} {z} {at} {p} {q} {t} {u} v w =
       rest = w.rest ∙ later b a p q (omega (arith, w.place)) v.rest;
     }
 
-pub wrote-is : {b a : List ℕ} {at p : ℕ} {t u : List ℕ} → Written b at a p t → t ≡ u → Written b at a p u
-wrote-is {b} {a} {at} {p} {t} {u} w e = subst (λ (l : List ℕ). Written b at a p l) e w
+pub wrote_is : {b a : List ℕ} {at p : ℕ} {t u : List ℕ} → Written b at a p t → t ≡ u → Written b at a p u
+wrote_is {b} {a} {at} {p} {t} {u} w e = subst (λ (l : List ℕ). Written b at a p l) e w
 
 -- a line put at the start decides the whole buffer
 pub whole : {b a : List ℕ} {p : ℕ} {t : List ℕ} → Written b 0 a p t → (p ≡ length t) × (a ≡ filled b t)
@@ -51,22 +51,22 @@ whole {b} {a} {p} {t} w =
     (end, sym (take-append-drop p a) ∙ ap (λ (l : List ℕ). l ++ drop p a) w.bytes ∙ ap (λ (l : List ℕ). t ++ l) (w.rest ∙ ap (λ (k : ℕ). drop k b) end))
 
 -- the next of a text that is copied byte by byte
-pub take-more : (s : List ℕ) (i : ℕ) → i < length s → take i s ++ (get_or s i 0 ∷ []) ≡ take (i + 1) s
-take-more s i h = rw (add-one i) (sym (take-suc s i 0 h))
+pub take_more : (s : List ℕ) (i : ℕ) → i < length s → take i s ++ (get_or s i 0 ∷ []) ≡ take (i + 1) s
+take_more s i h = rw (add-one i) (sym (take-suc s i 0 h))
 
 -- ---- digits
 
-pub length-numeral : (base k n : ℕ) → length (numeral base k n) ≡ k
+pub length_numeral : (base k n : ℕ) → length (numeral base k n) ≡ k
 unfolding numeral
-length-numeral base zero n = refl
-length-numeral base (suc k) n = omega (arith, length-append (numeral base k (n / base)) (glyphOf (n % base) ∷ []), length-numeral base k (n / base))
+length_numeral base zero n = refl
+length_numeral base (suc k) n = omega (arith, length-append (numeral base k (n / base)) (glyph_of (n % base) ∷ []), length_numeral base k (n / base))
 
 stored : (t : List ℕ) (j g : ℕ) → j < length t → drop j (set t j g) ≡ g ∷ drop (suc j) t
 stored [] j g h = absurd (omega arith)
 stored (x ∷ xs) zero g h = refl
 stored (x ∷ xs) (suc j) g h = stored xs j g (omega arith)
 
-pub moved : (b i k at rest g : ℕ) (out : List ℕ) → 0 < i → i ≤ k → at + k ≤ length out → g ≡ glyphOf (rest % b)
+pub moved : (b i k at rest g : ℕ) (out : List ℕ) → 0 < i → i ≤ k → at + k ≤ length out → g ≡ glyph_of (rest % b)
     → numeral b (i - 1) (rest / b) ++ slice (at + (i - 1)) (at + k) (set out (at + (i - 1)) g) ≡ numeral b i rest ++ slice (at + i) (at + k) out
 unfolding numeral
 moved b zero k at rest g out some h room e = absurd (omega arith)
@@ -79,53 +79,53 @@ moved b (suc j) k at rest g out some h room e =
     ∙ ap (λ (l : List ℕ). todo ++ drop (at + j) l) (take-set-lt (at + k) out (at + j) g (omega arith))
     ∙ ap (λ (l : List ℕ). todo ++ l) (stored (take (at + k) out) (at + j) g within)
     ∙ ap (λ (x : ℕ). todo ++ x ∷ done) e
-    ∙ sym (append_snoc todo (glyphOf (rest % b)) done)
-    ∙ ap (λ (m : ℕ). (todo ++ (glyphOf (rest % b) ∷ [])) ++ slice m (at + k) out) (sym last)
+    ∙ sym (append_snoc todo (glyph_of (rest % b)) done)
+    ∙ ap (λ (m : ℕ). (todo ++ (glyph_of (rest % b) ∷ [])) ++ slice m (at + k) out) (sym last)
 
 -- the digits stand
-pub all-moved : (b k at n rest : ℕ) (out₀ out : List ℕ) → length out ≡ length out₀ → take at out ≡ take at out₀ → drop (at + k) out ≡ drop (at + k) out₀
+pub all_moved : (b k at n rest : ℕ) (out₀ out : List ℕ) → length out ≡ length out₀ → take at out ≡ take at out₀ → drop (at + k) out ≡ drop (at + k) out₀
     → numeral b 0 rest ++ slice (at + 0) (at + k) out ≡ numeral b k n → Written out₀ at out (at + k) (numeral b k n)
 unfolding numeral
-all-moved b k at n rest out₀ out long front back digits =
-    let zero-more : at + 0 ≡ at = omega arith in
+all_moved b k at n rest out₀ out long front back digits =
+    let zero_more : at + 0 ≡ at = omega arith in
     record {
       long = long;
-      place = omega (arith, length-numeral b k n);
+      place = omega (arith, length_numeral b k n);
       bytes =
           sym (take-append-drop at (take (at + k) out))
           ∙ ap (λ (l : List ℕ). l ++ slice at (at + k) out) (take-take at (at + k) out (omega arith) ∙ front)
-          ∙ ap (λ (l : List ℕ). take at out₀ ++ l) (ap (λ (m : ℕ). slice m (at + k) out) (sym zero-more) ∙ digits);
+          ∙ ap (λ (l : List ℕ). take at out₀ ++ l) (ap (λ (m : ℕ). slice m (at + k) out) (sym zero_more) ∙ digits);
       rest = back;
     }
 
 -- ---- how many digits
 
-pub places-stop : (k n : ℕ) → 0 < k → n < 10 → placesFrom k n ≡ 1
-unfolding placesFrom
-places-stop zero n h l = absurd (omega arith)
-places-stop (suc k) n h l = rw (lt-ltb n 10 l)
+pub places_stop : (k n : ℕ) → 0 < k → n < 10 → places_from k n ≡ 1
+unfolding places_from
+places_stop zero n h l = absurd (omega arith)
+places_stop (suc k) n h l = rw (lt-ltb n 10 l)
 
-pub places-go : (k n : ℕ) → 0 < k → 10 ≤ n → placesFrom k n ≡ placesFrom (k - 1) (n / 10) + 1
-unfolding placesFrom
-places-go zero n h l = absurd (omega arith)
-places-go (suc k) n h l = rw (le-ltb n 10 l, sub-one (suc k))
+pub places_go : (k n : ℕ) → 0 < k → 10 ≤ n → places_from k n ≡ places_from (k - 1) (n / 10) + 1
+unfolding places_from
+places_go zero n h l = absurd (omega arith)
+places_go (suc k) n h l = rw (le-ltb n 10 l, sub-one (suc k))
 
-pub places-end : (n : ℕ) → placesFrom 0 n ≡ 1
-unfolding placesFrom
-places-end n = refl
+pub places_end : (n : ℕ) → places_from 0 n ≡ 1
+unfolding places_from
+places_end n = refl
 
 -- ---- values
 
-values-snoc : (xs : List Float) (x : Float) → valuesText xs ++ (32 ∷ valueText x) ≡ valuesText (xs ++ (x ∷ []))
-unfolding valuesText
-values-snoc [] x = ap (λ (l : List ℕ). 32 ∷ l) (sym (append-nil (valueText x)))
-values-snoc (v ∷ xs) x = ap (λ (l : List ℕ). 32 ∷ l) (append_assoc (valueText v) (valuesText xs) (32 ∷ valueText x) ∙ ap (λ (l : List ℕ). valueText v ++ l) (values-snoc xs x))
+values_snoc : (xs : List Float) (x : Float) → values_text xs ++ (32 ∷ value_text x) ≡ values_text (xs ++ (x ∷ []))
+unfolding values_text
+values_snoc [] x = ap (λ (l : List ℕ). 32 ∷ l) (sym (append_nil (value_text x)))
+values_snoc (v ∷ xs) x = ap (λ (l : List ℕ). 32 ∷ l) (append_assoc (value_text v) (values_text xs) (32 ∷ value_text x) ∙ ap (λ (l : List ℕ). value_text v ++ l) (values_snoc xs x))
 
-pub values-none : (x : List Float) → [] ≡ valuesText (first 0 x)
-unfolding valuesText first
-values-none x = refl
+pub values_none : (x : List Float) → [] ≡ values_text (first 0 x)
+unfolding values_text first
+values_none x = refl
 
 -- the next coordinate of a point
-pub values-more : (x : List Float) (i : ℕ) → valuesText (first i x) ++ (32 ∷ valueText (at x i)) ≡ valuesText (first (i + 1) x)
+pub values_more : (x : List Float) (i : ℕ) → values_text (first i x) ++ (32 ∷ value_text (at x i)) ≡ values_text (first (i + 1) x)
 unfolding first
-values-more x i = rw (add-one i) (values-snoc (first i x) (at x i))
+values_more x i = rw (add-one i) (values_snoc (first i x) (at x i))

@@ -19,32 +19,32 @@ pub record Written (before : List ℕ) (at : ℕ) (after : List ℕ) (next : ℕ
 -- ---- numbers
 
 -- the byte of a digit: `0` to `9`, then `A` to `F`
-abbrev pub glyphOf : ℕ → ℕ
-glyphOf d = cond (ltb d 10) (48 + d) (55 + d)
+abbrev pub glyph_of : ℕ → ℕ
+glyph_of d = cond (ltb d 10) (48 + d) (55 + d)
 
 -- the last k digits of n to the base, the most significant first
 unfoldable pub numeral : ℕ → ℕ → ℕ → List ℕ
 numeral base zero n = []
-numeral base (suc k) n = numeral base k (n / base) ++ (glyphOf (n % base) ∷ [])
+numeral base (suc k) n = numeral base k (n / base) ++ (glyph_of (n % base) ∷ [])
 
 -- how many decimal digits n has, if it has no more than k + 1
-unfoldable pub placesFrom : ℕ → ℕ → ℕ
-placesFrom zero n = 1
-placesFrom (suc k) n = cond (ltb n 10) 1 (placesFrom k (n / 10) + 1)
+unfoldable pub places_from : ℕ → ℕ → ℕ
+places_from zero n = 1
+places_from (suc k) n = cond (ltb n 10) 1 (places_from k (n / 10) + 1)
 
 -- of a u64
-abbrev pub placesOf : ℕ → ℕ
-placesOf n = placesFrom 19 n
+abbrev pub places_of : ℕ → ℕ
+places_of n = places_from 19 n
 
 -- "other numbers are decimal", with no leading zero
-unfoldable pub decimalText : ℕ → List ℕ
-decimalText n = numeral 10 (placesOf n) n
+unfoldable pub decimal_text : ℕ → List ℕ
+decimal_text n = numeral 10 (places_of n) n
 
 -- "f64 bits are shown as 16 hexadecimal digits"; `to_bits` of a NaN is 7FF8000000000000
-unfoldable pub valueText : Float → List ℕ
-valueText x = numeral 16 16 (to_bits binary64 x)
+unfoldable pub value_text : Float → List ℕ
+value_text x = numeral 16 16 (to_bits binary64 x)
 
 -- each value with a space before it
-unfoldable pub valuesText : List Float → List ℕ
-valuesText [] = []
-valuesText (x ∷ xs) = 32 ∷ (valueText x ++ valuesText xs)
+unfoldable pub values_text : List Float → List ℕ
+values_text [] = []
+values_text (x ∷ xs) = 32 ∷ (value_text x ++ values_text xs)

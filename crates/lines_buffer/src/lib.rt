@@ -6,7 +6,7 @@ ghost use Rattle.std.specs.Prelude.{◌≡◌, [], ◌∷◌, ◌+◌, ◌≤◌
 ghost use Rattle.std.specs.Float.Ieee.{to_bits};
 ghost use Rattle.std.specs.Float.{binary64};
 ghost use Rattle.vector.specs.Lists.{first};
-ghost use Rattle.lines_buffer.specs.Texts.{Written, glyphOf, numeral, placesOf, decimalText, valueText, valuesText};
+ghost use Rattle.lines_buffer.specs.Texts.{Written, glyph_of, numeral, places_of, decimal_text, value_text, values_text};
 
 // The bits of a value, one pattern for every NaN.
 fn bits(x: f64) -> u64
@@ -20,7 +20,7 @@ fn bits(x: f64) -> u64
 
 fn glyph(d: u64) -> u8
     requires { d < 16 }
-    ensures { result ≡ glyphOf d }
+    ensures { result ≡ glyph_of d }
 {
     if d < 10 {
         return (48 + d) as u8;
@@ -55,7 +55,7 @@ fn put_digits(out: &mut [u8], at: usize, base: u64, k: usize, n: u64) -> usize
 
 // How many decimal digits n has.
 fn places(n: u64) -> usize
-    ensures { (result ≡ placesOf n) × (result ≤ 20) }
+    ensures { (result ≡ places_of n) × (result ≤ 20) }
 {
     let mut k: usize = 19;
     let mut rest = n;
@@ -73,7 +73,7 @@ fn places(n: u64) -> usize
 
 pub fn put_decimal(out: &mut [u8], at: usize, n: u64) -> usize
     requires { at + 20 ≤ length out.old }
-    ensures { (result ≤ at + 20) × Written out.old at out.new result (decimalText n) }
+    ensures { (result ≤ at + 20) × Written out.old at out.new result (decimal_text n) }
 {
     let k = places(n);
     put_digits(out, at, 10, k, n)
@@ -82,7 +82,7 @@ pub fn put_decimal(out: &mut [u8], at: usize, n: u64) -> usize
 // A decimal with a space before it.
 pub fn put_count(out: &mut [u8], at: usize, n: u64) -> usize
     requires { at + 21 ≤ length out.old }
-    ensures { (result ≤ at + 21) × Written out.old at out.new result (32 ∷ decimalText n) }
+    ensures { (result ≤ at + 21) × Written out.old at out.new result (32 ∷ decimal_text n) }
 {
     let a = put_byte(out, at, b' ');
     put_decimal(out, a, n)
@@ -91,7 +91,7 @@ pub fn put_count(out: &mut [u8], at: usize, n: u64) -> usize
 // A value's bits with a space before them.
 pub fn put_value(out: &mut [u8], at: usize, x: f64) -> usize
     requires { at + 17 ≤ length out.old }
-    ensures { (result ≡ at + 17) × Written out.old at out.new result (32 ∷ valueText x) }
+    ensures { (result ≡ at + 17) × Written out.old at out.new result (32 ∷ value_text x) }
 {
     let w = bits(x);
     let a = put_byte(out, at, b' ');
@@ -102,7 +102,7 @@ pub fn put_value(out: &mut [u8], at: usize, x: f64) -> usize
 pub fn put_values(out: &mut [u8], at: usize, x: [f64; 16], n: usize) -> usize
     requires n_bound { n ≤ 16 }
     requires at_in_bounds { at + 272 ≤ length out.old }
-    ensures { (result ≤ at + 272) × Written out.old at out.new result (valuesText (first n x)) }
+    ensures { (result ≤ at + 272) × Written out.old at out.new result (values_text (first n x)) }
 {
     let mut p = at;
     let mut i: usize = 0;

@@ -1,7 +1,7 @@
 -- What a field may be, over its bytes: one of six shapes. Definitions only.
 use Rattle.std.specs.Prelude.{ℕ, ◌+◌, ◌-◌, ◌*◌, Bool, true, false, ◌&&◌, cond, List, [], ◌∷◌, length, eqb, leb, ltb}
 use Rattle.protocol.specs.declared.Kind.TheVariants.{Value, Gradient}
-use Rattle.protocol.specs.Protocol.{letter as kindLetter, simplexMark, bfgsMark, lbfgsMark}
+use Rattle.protocol.specs.Protocol.{letter as kindLetter, simplex_mark, bfgs_mark, lbfgs_mark}
 use Rattle.lines_field.specs.declared.Reading.{Reading}
 
 -- the largest u64
@@ -11,13 +11,13 @@ most = 18446744073709551615
 -- ---- numbers
 
 -- a byte as a digit: `0` to `9`, then `A` to `F`, and 99 for any other
-unfoldable pub digitOf : ℕ → ℕ
-digitOf b = cond (ltb b 48) 99 (cond (leb b 57) (b - 48) (cond (ltb b 65) 99 (cond (leb b 70) (b - 55) 99)))
+unfoldable pub digit_of : ℕ → ℕ
+digit_of b = cond (ltb b 48) 99 (cond (leb b 57) (b - 48) (cond (ltb b 65) 99 (cond (leb b 70) (b - 55) 99)))
 
 unfoldable pub digits : List ℕ → List ℕ
-unfolding digitOf
+unfolding digit_of
 digits [] = []
-digits (b ∷ bs) = digitOf b ∷ digits bs
+digits (b ∷ bs) = digit_of b ∷ digits bs
 
 -- whether each is a digit to the base
 unfoldable pub below : ℕ → List ℕ → Bool
@@ -50,31 +50,31 @@ abbrev pub absent : Reading
 absent = record { ok = true; given = false; word = 0 }
 
 -- "f64 bits are shown as 16 hexadecimal digits": exactly 16 out of 0-9 and A-F
-unfoldable pub wordField : List ℕ → Reading
-wordField f = cond (eqb (length f) 16 && below 16 (digits f)) (formed (spelt 16 0 (digits f))) malformed
+unfoldable pub word_field : List ℕ → Reading
+word_field f = cond (eqb (length f) 16 && below 16 (digits f)) (formed (spelt 16 0 (digits f))) malformed
 
 -- "other numbers are decimal": one or more of 0-9, at most 2^64 - 1
-unfoldable pub decimalField : List ℕ → Reading
-decimalField f = cond (eqb (length f) 0) malformed (cond (below 10 (digits f) && leb (spelt 10 0 (digits f)) most) (formed (spelt 10 0 (digits f))) malformed)
+unfoldable pub decimal_field : List ℕ → Reading
+decimal_field f = cond (eqb (length f) 0) malformed (cond (below 10 (digits f) && leb (spelt 10 0 (digits f)) most) (formed (spelt 10 0 (digits f))) malformed)
 
 -- "max_iter max_fevals (`-` absent)"
-unfoldable pub maybeField : List ℕ → Reading
-maybeField f = cond (same f (45 ∷ [])) absent (decimalField f)
+unfoldable pub maybe_field : List ℕ → Reading
+maybe_field f = cond (same f (45 ∷ [])) absent (decimal_field f)
 
 -- "(0 or 1)"
-unfoldable pub flagField : List ℕ → Reading
-flagField f = cond (same f (48 ∷ [])) (formed 0) (cond (same f (49 ∷ [])) (formed 1) malformed)
+unfoldable pub flag_field : List ℕ → Reading
+flag_field f = cond (same f (48 ∷ [])) (formed 0) (cond (same f (49 ∷ [])) (formed 1) malformed)
 
 -- "a kind (V for a value, G for a gradient)"
-unfoldable pub letterField : List ℕ → Reading
-letterField f = cond (same f (kindLetter Value ∷ [])) (formed (kindLetter Value)) (cond (same f (kindLetter Gradient ∷ [])) (formed (kindLetter Gradient)) malformed)
+unfoldable pub letter_field : List ℕ → Reading
+letter_field f = cond (same f (kindLetter Value ∷ [])) (formed (kindLetter Value)) (cond (same f (kindLetter Gradient ∷ [])) (formed (kindLetter Gradient)) malformed)
 
 -- "`simplex`, `bfgs` or `lbfgs`": the marks of these jobs
-unfoldable pub jobField : List ℕ → Reading
-jobField f =
-    cond (same f (115 ∷ 105 ∷ 109 ∷ 112 ∷ 108 ∷ 101 ∷ 120 ∷ [])) (formed simplexMark)
-    (cond (same f (98 ∷ 102 ∷ 103 ∷ 115 ∷ [])) (formed bfgsMark)
-    (cond (same f (108 ∷ 98 ∷ 102 ∷ 103 ∷ 115 ∷ [])) (formed lbfgsMark)
+unfoldable pub job_field : List ℕ → Reading
+job_field f =
+    cond (same f (115 ∷ 105 ∷ 109 ∷ 112 ∷ 108 ∷ 101 ∷ 120 ∷ [])) (formed simplex_mark)
+    (cond (same f (98 ∷ 102 ∷ 103 ∷ 115 ∷ [])) (formed bfgs_mark)
+    (cond (same f (108 ∷ 98 ∷ 102 ∷ 103 ∷ 115 ∷ [])) (formed lbfgs_mark)
     malformed))
 
 -- the shapes, by number
@@ -97,12 +97,12 @@ abbrev pub job : ℕ
 job = 6
 
 -- a field read as a shape
-unfoldable pub fieldAs : ℕ → List ℕ → Reading
-fieldAs k f =
-    cond (eqb k word) (wordField f)
-    (cond (eqb k decimal) (decimalField f)
-    (cond (eqb k maybe) (maybeField f)
-    (cond (eqb k flag) (flagField f)
-    (cond (eqb k letter) (letterField f)
-    (cond (eqb k job) (jobField f)
+unfoldable pub field_as : ℕ → List ℕ → Reading
+field_as k f =
+    cond (eqb k word) (word_field f)
+    (cond (eqb k decimal) (decimal_field f)
+    (cond (eqb k maybe) (maybe_field f)
+    (cond (eqb k flag) (flag_field f)
+    (cond (eqb k letter) (letter_field f)
+    (cond (eqb k job) (job_field f)
     malformed)))))

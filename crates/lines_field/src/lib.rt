@@ -2,8 +2,8 @@
 #![tactic(auto)]
 
 ghost use Rattle.std.specs.Prelude.{◌≡◌, ◌<◌};
-ghost use Rattle.lines_field.specs.Shapes.{digitOf, malformed, formed};
-ghost use Rattle.lines_field.specs.Fields.{lostOf, growOf, blankFieldOf, lengthenedOf, addedOf, spellsOf, wordOf, decimalOf, maybeOf, flagOf, letterOf, jobOf, judgedOf};
+ghost use Rattle.lines_field.specs.Shapes.{digit_of, malformed, formed};
+ghost use Rattle.lines_field.specs.Fields.{lost_of, grow_of, blank_field_of, lengthened_of, added_of, spells_of, word_of, decimal_of, maybe_of, flag_of, letter_of, job_of, judged_of};
 
 use protocol::{BFGS, GRADIENT, LBFGS, SIMPLEX, VALUE};
 
@@ -34,7 +34,7 @@ pub struct Reading {
 
 // A byte as a digit, 99 for one that is none.
 fn digit(b: u8) -> u64
-    ensures { result ≡ digitOf b }
+    ensures { result ≡ digit_of b }
 {
     if b < b'0' {
         return 99;
@@ -53,7 +53,7 @@ fn digit(b: u8) -> u64
 
 // A number whose next digit is none of its base, or makes it too large.
 fn lost(s: Sum) -> Sum
-    ensures { result ≡ lostOf s }
+    ensures { result ≡ lost_of s }
 {
     Sum {
         fits: false,
@@ -64,7 +64,7 @@ fn lost(s: Sum) -> Sum
 // One digit more to the base.
 fn grow(base: u64, s: Sum, d: u64) -> Sum
     requires { 0 < base }
-    ensures { result ≡ growOf base s d }
+    ensures { result ≡ grow_of base s d }
 {
     if d >= base {
         return lost(s);
@@ -79,7 +79,7 @@ fn grow(base: u64, s: Sum, d: u64) -> Sum
 }
 
 fn lengthened(n: u64) -> u64
-    ensures { result ≡ lengthenedOf n }
+    ensures { result ≡ lengthened_of n }
 {
     if n < 17 {
         return n + 1;
@@ -88,7 +88,7 @@ fn lengthened(n: u64) -> u64
 }
 
 pub fn blank_field() -> Field
-    ensures { result ≡ blankFieldOf }
+    ensures { result ≡ blank_field_of }
 {
     let zero = Sum {
         fits: true,
@@ -104,7 +104,7 @@ pub fn blank_field() -> Field
 
 // One byte more.
 pub fn added(f: Field, b: u8) -> Field
-    ensures { result ≡ addedOf f b }
+    ensures { result ≡ added_of f b }
 {
     let d = digit(b);
     let dec = grow(10, f.dec, d);
@@ -142,7 +142,7 @@ fn fit(word: u64) -> Reading
 
 // Whether the field is a text of so many bytes, eight at most, that is this number to the base 256.
 fn spells(f: Field, size: u64, text: u64) -> bool
-    ensures { result ≡ spellsOf f size text }
+    ensures { result ≡ spells_of f size text }
 {
     if f.size != size {
         return false;
@@ -155,7 +155,7 @@ fn spells(f: Field, size: u64, text: u64) -> bool
 }
 
 fn word(f: Field) -> Reading
-    ensures { result ≡ wordOf f }
+    ensures { result ≡ word_of f }
 {
     if f.size != 16 {
         return unfit();
@@ -168,7 +168,7 @@ fn word(f: Field) -> Reading
 }
 
 fn decimal(f: Field) -> Reading
-    ensures { result ≡ decimalOf f }
+    ensures { result ≡ decimal_of f }
 {
     if f.size == 0 {
         return unfit();
@@ -181,7 +181,7 @@ fn decimal(f: Field) -> Reading
 }
 
 fn maybe(f: Field) -> Reading
-    ensures { result ≡ maybeOf f }
+    ensures { result ≡ maybe_of f }
 {
     if spells(f, 1, 45) {
         return Reading {
@@ -194,7 +194,7 @@ fn maybe(f: Field) -> Reading
 }
 
 fn flag(f: Field) -> Reading
-    ensures { result ≡ flagOf f }
+    ensures { result ≡ flag_of f }
 {
     if spells(f, 1, 48) {
         return fit(0);
@@ -206,7 +206,7 @@ fn flag(f: Field) -> Reading
 }
 
 fn letter(f: Field) -> Reading
-    ensures { result ≡ letterOf f }
+    ensures { result ≡ letter_of f }
 {
     if spells(f, 1, VALUE as u64) {
         return fit(VALUE as u64);
@@ -218,7 +218,7 @@ fn letter(f: Field) -> Reading
 }
 
 fn job(f: Field) -> Reading
-    ensures { result ≡ jobOf f }
+    ensures { result ≡ job_of f }
 {
     if spells(f, 7, 0x73_696d_706c_6578) {
         return fit(SIMPLEX);
@@ -234,7 +234,7 @@ fn job(f: Field) -> Reading
 
 // The field read as a shape.
 pub fn judged(shape: u64, f: Field) -> Reading
-    ensures { result ≡ judgedOf shape f }
+    ensures { result ≡ judged_of shape f }
 {
     if shape == 1 {
         return word(f);

@@ -3,7 +3,7 @@
 
 ghost use Rattle.std.specs.Prelude.{◌≡◌, ◌≤◌};
 ghost use Rattle.float.specs.Binary64.{bits};
-ghost use Rattle.lines_forms.specs.Lines.{wordsOf, wholeOf, firstLineOf, pointHoldsOf, pointLineOf, wordCountOf, answerHoldsOf, answerLineOf};
+ghost use Rattle.lines_forms.specs.Lines.{words_of, whole_of, first_line_of, point_holds_of, point_line_of, word_count_of, answer_holds_of, answer_line_of};
 
 use lines_field::Reading;
 use lines_reader::LineRead;
@@ -47,7 +47,7 @@ fn value(b: u64) -> f64
 // The f64s of seventeen fields, from a place on.
 pub fn words(fields: [Reading; 20], from: usize) -> [f64; 17]
     requires { from ≤ 3 }
-    ensures { result ≡ wordsOf fields from 17 }
+    ensures { result ≡ words_of fields from 17 }
 {
     let mut w = [0.0; 17];
     let mut i: usize = 0;
@@ -61,7 +61,7 @@ pub fn words(fields: [Reading; 20], from: usize) -> [f64; 17]
 
 // Whether a line has n fields, each of its shape.
 pub fn whole(l: LineRead, n: usize) -> bool
-    ensures { result ≡ wholeOf l n }
+    ensures { result ≡ whole_of l n }
 {
     if l.count == n {
         return l.ok;
@@ -71,7 +71,7 @@ pub fn whole(l: LineRead, n: usize) -> bool
 
 // Line 1, as the reader has read it.
 pub fn first_line(l: LineRead) -> FirstLine
-    ensures { result ≡ firstLineOf l }
+    ensures { result ≡ first_line_of l }
 {
     let ok = whole(l, 2);
     let job = l.fields[0];
@@ -85,7 +85,7 @@ pub fn first_line(l: LineRead) -> FirstLine
 
 // Whether line 3 has n words; of none it is empty.
 fn point_holds(l: LineRead, n: u64) -> bool
-    ensures { result ≡ pointHoldsOf l n }
+    ensures { result ≡ point_holds_of l n }
 {
     if n == 0 {
         return l.empty;
@@ -95,7 +95,7 @@ fn point_holds(l: LineRead, n: u64) -> bool
 
 // Line 3, where line 1 said n.
 pub fn point_line(l: LineRead, n: u64) -> PointLine
-    ensures { result ≡ pointLineOf l n }
+    ensures { result ≡ point_line_of l n }
 {
     let ok = point_holds(l, n);
     let fields = l.fields;
@@ -105,7 +105,7 @@ pub fn point_line(l: LineRead, n: u64) -> PointLine
 
 // How many words are kept of an answer with so many fields.
 fn word_count(count: usize) -> usize
-    ensures { result ≡ wordCountOf count }
+    ensures { result ≡ word_count_of count }
 {
     if count < 2 {
         return 0;
@@ -117,7 +117,7 @@ fn word_count(count: usize) -> usize
 }
 
 fn answer_holds(l: LineRead) -> bool
-    ensures { result ≡ answerHoldsOf l }
+    ensures { result ≡ answer_holds_of l }
 {
     if l.count < 2 {
         return false;
@@ -127,7 +127,7 @@ fn answer_holds(l: LineRead) -> bool
 
 // An answer: number, kind, words.
 pub fn answer_line(l: LineRead) -> AnswerLine
-    ensures { result ≡ answerLineOf l }
+    ensures { result ≡ answer_line_of l }
 {
     let ok = answer_holds(l);
     let fields = l.fields;

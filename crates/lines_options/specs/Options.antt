@@ -8,51 +8,51 @@ use Rattle.protocol.specs.declared.GradientOptions.{GradientOptions}
 use Rattle.lines_field.specs.declared.Reading.{Reading}
 use Rattle.lines_field.specs.Shapes.{malformed}
 use Rattle.lines_reader.specs.declared.LineRead.{LineRead}
-use Rattle.lines_reader.specs.Forms.{readings, simplexLine2, gradientLine2}
-use Rattle.lines_forms.specs.Lines.{numberAt, valueAt, someIf, hasForm, wholeOf}
+use Rattle.lines_reader.specs.Forms.{readings, simplex_line2, gradient_line2}
+use Rattle.lines_forms.specs.Lines.{number_at, value_at, some_if, has_form, whole_of}
 use Rattle.lines_options.specs.declared.SimplexLine.{SimplexLine}
 use Rattle.lines_options.specs.declared.GradientLine.{GradientLine}
 
 -- ---- fields as the engine's types
 
 -- "(`-` absent)"
-abbrev pub allowanceIn : Reading → Allowance
-allowanceIn v = record { given = v.given; count = v.word }
+abbrev pub allowance_in : Reading → Allowance
+allowance_in v = record { given = v.given; count = v.word }
 
 -- "max_iter max_fevals", from i on
-abbrev pub allowancesAt : List Reading → ℕ → Allowances
-allowancesAt vs i = record { iter = allowanceIn (get_or vs i malformed); fevals = allowanceIn (get_or vs (i + 1) malformed) }
+abbrev pub allowances_at : List Reading → ℕ → Allowances
+allowances_at vs i = record { iter = allowance_in (get_or vs i malformed); fevals = allowance_in (get_or vs (i + 1) malformed) }
 
 -- "x_tol f_tol initial_step as bits, max_iter max_fevals (`-` absent), restarts, adaptive (0 or 1)"
-abbrev pub simplexOptionsIn : List Reading → SimplexOptions
-simplexOptionsIn vs = record { xtol = valueAt vs 0; ftol = valueAt vs 1; step = valueAt vs 2; restarts = numberAt vs 5; adaptive = eqb (numberAt vs 6) 1 }
+abbrev pub simplex_options_in : List Reading → SimplexOptions
+simplex_options_in vs = record { xtol = value_at vs 0; ftol = value_at vs 1; step = value_at vs 2; restarts = number_at vs 5; adaptive = eqb (number_at vs 6) 1 }
 
 -- "grad_tol f_tol x_tol c1 c2 step_max as bits, max_iter max_fevals max_evals memory, gradients (0 or 1)"
-abbrev pub gradientOptionsIn : List Reading → GradientOptions
-gradientOptionsIn vs =
+abbrev pub gradient_options_in : List Reading → GradientOptions
+gradient_options_in vs =
     record {
-      gradtol = valueAt vs 0;
-      ftol = valueAt vs 1;
-      xtol = valueAt vs 2;
-      wolfe = record { c1 = valueAt vs 3; c2 = valueAt vs 4; stepmax = valueAt vs 5; evals = numberAt vs 8 };
-      memory = numberAt vs 9;
-      gradients = eqb (numberAt vs 10) 1;
+      gradtol = value_at vs 0;
+      ftol = value_at vs 1;
+      xtol = value_at vs 2;
+      wolfe = record { c1 = value_at vs 3; c2 = value_at vs 4; stepmax = value_at vs 5; evals = number_at vs 8 };
+      memory = number_at vs 9;
+      gradients = eqb (number_at vs 10) 1;
     }
 
 -- ---- what a line of bytes says; `none` for one of another form, which is `bad`
 
 -- "Line 2, simplex"
-unfoldable pub simplexLine : List ℕ → Option (SimplexOptions × Allowances)
-simplexLine bs = someIf (hasForm simplexLine2 7 bs) (simplexOptionsIn (readings simplexLine2 bs), allowancesAt (readings simplexLine2 bs) 3)
+unfoldable pub simplex_line : List ℕ → Option (SimplexOptions × Allowances)
+simplex_line bs = some_if (has_form simplex_line2 7 bs) (simplex_options_in (readings simplex_line2 bs), allowances_at (readings simplex_line2 bs) 3)
 
 -- Line 2, "others"
-unfoldable pub gradientLine : List ℕ → Option (GradientOptions × Allowances)
-gradientLine bs = someIf (hasForm gradientLine2 11 bs) (gradientOptionsIn (readings gradientLine2 bs), allowancesAt (readings gradientLine2 bs) 6)
+unfoldable pub gradient_line : List ℕ → Option (GradientOptions × Allowances)
+gradient_line bs = some_if (has_form gradient_line2 11 bs) (gradient_options_in (readings gradient_line2 bs), allowances_at (readings gradient_line2 bs) 6)
 
 -- ---- what the code makes of a line that was read
 
-unfoldable pub simplexLineOf : LineRead → SimplexLine
-simplexLineOf l = record { ok = wholeOf l 7; options = simplexOptionsIn l.fields; allowances = allowancesAt l.fields 3 }
+unfoldable pub simplex_line_of : LineRead → SimplexLine
+simplex_line_of l = record { ok = whole_of l 7; options = simplex_options_in l.fields; allowances = allowances_at l.fields 3 }
 
-unfoldable pub gradientLineOf : LineRead → GradientLine
-gradientLineOf l = record { ok = wholeOf l 11; options = gradientOptionsIn l.fields; allowances = allowancesAt l.fields 6 }
+unfoldable pub gradient_line_of : LineRead → GradientLine
+gradient_line_of l = record { ok = whole_of l 11; options = gradient_options_in l.fields; allowances = allowances_at l.fields 6 }

@@ -3,7 +3,7 @@
 #![tactic(auto)]
 
 ghost use Rattle.std.specs.Prelude.{◌≡◌};
-ghost use Rattle.lines_options.specs.Options.{allowanceIn, simplexLineOf, gradientLineOf};
+ghost use Rattle.lines_options.specs.Options.{allowance_in, simplex_line_of, gradient_line_of};
 
 pub use lines_field::{Field, Reading};
 pub use lines_forms::{answer_line, first_line, point_line};
@@ -28,7 +28,7 @@ pub struct GradientLine {
 }
 
 fn allowance(v: Reading) -> Allowance
-    ensures { result ≡ allowanceIn v }
+    ensures { result ≡ allowance_in v }
 {
     Allowance {
         given: v.given,
@@ -38,7 +38,7 @@ fn allowance(v: Reading) -> Allowance
 
 // Line 2 of simplex: x_tol f_tol initial_step max_iter max_fevals restarts adaptive.
 pub fn simplex_line(l: LineRead) -> SimplexLine
-    ensures { result ≡ simplexLineOf l }
+    ensures { result ≡ simplex_line_of l }
 {
     let ok = whole(l, 7);
     let fields = l.fields;
@@ -65,7 +65,7 @@ pub fn simplex_line(l: LineRead) -> SimplexLine
 // Line 2 of bfgs and lbfgs: grad_tol f_tol x_tol c1 c2 step_max max_iter max_fevals max_evals memory
 // gradients.
 pub fn gradient_line(l: LineRead) -> GradientLine
-    ensures { result ≡ gradientLineOf l }
+    ensures { result ≡ gradient_line_of l }
 {
     let ok = whole(l, 11);
     let fields = l.fields;

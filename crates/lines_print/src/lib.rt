@@ -6,7 +6,7 @@ mod reasons;
 
 ghost use Rattle.std.specs.Prelude.{◌≡◌, ◌≤◌, length};
 ghost use Rattle.lines_buffer.specs.Texts.{filled};
-ghost use Rattle.lines_print.specs.Print.{limitedOf, questionOf, resultOf, askText, endText, noText, badText};
+ghost use Rattle.lines_print.specs.Print.{limited_of, question_of, result_of, ask_text, end_text, no_text, bad_text};
 
 use lines_buffer::{put_byte, put_count, put_decimal, put_text, put_value, put_values};
 use protocol::{Kind, Summary};
@@ -14,7 +14,7 @@ use reasons::{put_flag, put_reason};
 
 // A count of coordinates, sixteen for any above.
 fn limited(n: usize) -> usize
-    ensures { (result ≡ limitedOf n) × (result ≤ 16) }
+    ensures { (result ≡ limited_of n) × (result ≤ 16) }
 {
     if n < 16 {
         return n;
@@ -24,7 +24,7 @@ fn limited(n: usize) -> usize
 
 // `bad`, the line's number.
 pub fn put_bad(out: &mut [u8; 512], line: u64) -> usize
-    ensures { (result ≡ length (badText line)) × (out.new ≡ filled out.old (badText line)) }
+    ensures { (result ≡ length (bad_text line)) × (out.new ≡ filled out.old (bad_text line)) }
 {
     let a = put_text(out, 0, b"bad ");
     let b = put_decimal(out, a, line);
@@ -33,7 +33,7 @@ pub fn put_bad(out: &mut [u8; 512], line: u64) -> usize
 
 // `no`, a refusal's number and detail.
 pub fn put_no(out: &mut [u8; 512], number: u64, detail: u64) -> usize
-    ensures { (result ≡ length (noText number detail)) × (out.new ≡ filled out.old (noText number detail)) }
+    ensures { (result ≡ length (no_text number detail)) × (out.new ≡ filled out.old (no_text number detail)) }
 {
     let a = put_text(out, 0, b"no ");
     let b = put_decimal(out, a, number);
@@ -43,7 +43,7 @@ pub fn put_no(out: &mut [u8; 512], number: u64, detail: u64) -> usize
 
 // `ask`, a question's number, kind and point: the first n of sixteen coordinates.
 pub fn put_ask(out: &mut [u8; 512], number: u64, kind: Kind, x: [f64; 16], n: usize) -> usize
-    ensures { (result ≡ length (askText (questionOf number kind x n))) × (out.new ≡ filled out.old (askText (questionOf number kind x n))) }
+    ensures { (result ≡ length (ask_text (question_of number kind x n))) × (out.new ≡ filled out.old (ask_text (question_of number kind x n))) }
 {
     let m = limited(n);
     let k = protocol::letter(kind);
@@ -57,7 +57,7 @@ pub fn put_ask(out: &mut [u8; 512], number: u64, kind: Kind, x: [f64; 16], n: us
 
 // `end`, a result: reason, converged, iterations, fevals, gevals, f, x.
 pub fn put_end(out: &mut [u8; 512], s: Summary, x: [f64; 16], n: usize) -> usize
-    ensures { (result ≡ length (endText (resultOf s x n))) × (out.new ≡ filled out.old (endText (resultOf s x n))) }
+    ensures { (result ≡ length (end_text (result_of s x n))) × (out.new ≡ filled out.old (end_text (result_of s x n))) }
 {
     let m = limited(n);
     let reason = s.reason;

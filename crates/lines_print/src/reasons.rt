@@ -1,7 +1,7 @@
 // The words of a result: why a fit ended, and whether it converged.
 ghost use Rattle.std.specs.Prelude.{◌+◌, ◌≤◌, length};
 ghost use Rattle.lines_buffer.specs.Texts.{Written};
-ghost use Rattle.lines_print.specs.Reasons.{reasonText, flagText};
+ghost use Rattle.lines_print.specs.Reasons.{reason_text, flag_text};
 
 use lines_buffer::put_text;
 use protocol::Termination;
@@ -9,7 +9,7 @@ use protocol::Termination;
 // The reason as `Termination` spells it.
 pub fn put_reason(out: &mut [u8], at: usize, reason: Termination) -> usize
     requires { at + 19 ≤ length out.old }
-    ensures { (result ≤ at + 19) × Written out.old at out.new result (reasonText reason) }
+    ensures { (result ≤ at + 19) × Written out.old at out.new result (reason_text reason) }
 {
     match reason {
         Termination::GradientTolerance => put_text(out, at, b"GradientTolerance"),
@@ -26,7 +26,7 @@ pub fn put_reason(out: &mut [u8], at: usize, reason: Termination) -> usize
 
 pub fn put_flag(out: &mut [u8], at: usize, b: bool) -> usize
     requires { at + 3 ≤ length out.old }
-    ensures { (result ≤ at + 3) × Written out.old at out.new result (flagText b) }
+    ensures { (result ≤ at + 3) × Written out.old at out.new result (flag_text b) }
 {
     if b {
         return put_text(out, at, b"yes");

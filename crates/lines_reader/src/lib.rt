@@ -4,8 +4,8 @@
 #![tactic(auto)]
 
 ghost use Rattle.std.specs.Prelude.{◌≡◌, ◌&&◌};
-ghost use Rattle.lines_reader.specs.Forms.{shapeAtOf};
-ghost use Rattle.lines_reader.specs.Reader.{oneMoreOf, keptOf, aloneOf, freshLineOf, takenOf, startedOf, fedOf, finishedOf, begunOf};
+ghost use Rattle.lines_reader.specs.Forms.{shape_at_of};
+ghost use Rattle.lines_reader.specs.Reader.{one_more_of, kept_of, alone_of, fresh_line_of, taken_of, started_of, fed_of, finished_of, begun_of};
 
 use lines_field::{Field, Reading};
 
@@ -51,7 +51,7 @@ const ANSWER_SHAPES: [u64; 2] = [2, 5];
 
 // The shape that a line's form asks for at place i, 0 where there is to be no field.
 fn shape_at(form: u64, i: usize) -> u64
-    ensures { result ≡ shapeAtOf form i }
+    ensures { result ≡ shape_at_of form i }
 {
     if form == LINE1 {
         if i < 2 {
@@ -84,7 +84,7 @@ fn shape_at(form: u64, i: usize) -> u64
 }
 
 fn one_more(n: usize) -> usize
-    ensures { result ≡ oneMoreOf n }
+    ensures { result ≡ one_more_of n }
 {
     if n < 0xffff_ffff_ffff_ffff {
         return n + 1;
@@ -93,7 +93,7 @@ fn one_more(n: usize) -> usize
 }
 
 fn kept(fields: [Reading; 20], at: usize, v: Reading) -> [Reading; 20]
-    ensures { result ≡ keptOf fields at v }
+    ensures { result ≡ kept_of fields at v }
 {
     let mut w = fields;
     if at < 20 {
@@ -104,7 +104,7 @@ fn kept(fields: [Reading; 20], at: usize, v: Reading) -> [Reading; 20]
 }
 
 fn alone(at: usize, size: u64) -> bool
-    ensures { result ≡ aloneOf at size }
+    ensures { result ≡ alone_of at size }
 {
     if at == 0 {
         return size == 0;
@@ -122,7 +122,7 @@ fn both(a: bool, b: bool) -> bool
 }
 
 fn fresh_line(form: u64) -> LineRead
-    ensures { result ≡ freshLineOf form }
+    ensures { result ≡ fresh_line_of form }
 {
     let none = lines_field::unfit();
     LineRead {
@@ -136,7 +136,7 @@ fn fresh_line(form: u64) -> LineRead
 
 // The line with one field more.
 fn taken(l: LineRead, f: Field) -> LineRead
-    ensures { result ≡ takenOf l f }
+    ensures { result ≡ taken_of l f }
 {
     let at = l.count;
     let shape = shape_at(l.form, at);
@@ -158,7 +158,7 @@ fn taken(l: LineRead, f: Field) -> LineRead
 // A reader at the beginning of a line of a form: 1 is line 1, 2 is line 2 of simplex, 3 that of bfgs
 // and lbfgs, 4 is line 3, 5 an answer.
 pub fn started(form: u64) -> Reader
-    ensures { result ≡ startedOf form }
+    ensures { result ≡ started_of form }
 {
     let field = lines_field::blank_field();
     let line = fresh_line(form);
@@ -167,7 +167,7 @@ pub fn started(form: u64) -> Reader
 
 // One byte of the line more.
 pub fn fed(r: Reader, b: u8) -> Reader
-    ensures { result ≡ fedOf r b }
+    ensures { result ≡ fed_of r b }
 {
     let f = r.field;
     let l = r.line;
@@ -182,7 +182,7 @@ pub fn fed(r: Reader, b: u8) -> Reader
 
 // The line that ends here.
 pub fn finished(r: Reader) -> LineRead
-    ensures { result ≡ finishedOf r }
+    ensures { result ≡ finished_of r }
 {
     let f = r.field;
     let l = r.line;
@@ -191,7 +191,7 @@ pub fn finished(r: Reader) -> LineRead
 
 // Whether the line has a byte so far.
 pub fn begun(r: Reader) -> bool
-    ensures { result ≡ begunOf r }
+    ensures { result ≡ begun_of r }
 {
     let l = r.line;
     let f = r.field;

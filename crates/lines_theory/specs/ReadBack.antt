@@ -7,50 +7,50 @@ use Rattle.protocol.specs.declared.Termination.TheVariants.{GradientTolerance, S
 use Rattle.protocol.specs.declared.Kind.{Kind}
 use Rattle.protocol.specs.Protocol.{letter, Question, Answer, Result}
 use Rattle.lines_field.specs.declared.Reading.{Reading}
-use Rattle.lines_field.specs.Shapes.{most, same, wordField, decimalField}
-use Rattle.lines_reader.specs.Forms.{fields, allOk}
-use Rattle.lines_forms.specs.Lines.{someIf, valueIn, answerLine}
-use Rattle.lines_print.specs.Reasons.{reasonText, flagText}
-use Rattle.lines_print.specs.Print.{answerText, askText, endBefore, endText}
+use Rattle.lines_field.specs.Shapes.{most, same, word_field, decimal_field}
+use Rattle.lines_reader.specs.Forms.{fields, all_ok}
+use Rattle.lines_forms.specs.Lines.{some_if, value_in, answer_line}
+use Rattle.lines_print.specs.Reasons.{reason_text, flag_text}
+use Rattle.lines_print.specs.Print.{answer_text, ask_text, end_before, end_text}
 
 -- ---- an `end` line
 
 -- the first of some reasons whose text a field is
-unfoldable pub reasonAmong : List Termination → List ℕ → Option Termination
-reasonAmong [] f = none
-reasonAmong (r ∷ rs) f = cond (same f (reasonText r)) (some r) (reasonAmong rs f)
+unfoldable pub reason_among : List Termination → List ℕ → Option Termination
+reason_among [] f = none
+reason_among (r ∷ rs) f = cond (same f (reason_text r)) (some r) (reason_among rs f)
 
 -- a field as one of the nine reasons
-abbrev pub reasonField : List ℕ → Option Termination
-reasonField f = reasonAmong (GradientTolerance ∷ SimplexTolerance ∷ StepTolerance ∷ FunctionTolerance ∷ MaxIterations ∷ MaxFevals ∷ LineSearchFailed ∷ GradientFailed ∷ ObjectiveResolution ∷ []) f
+abbrev pub reason_field : List ℕ → Option Termination
+reason_field f = reason_among (GradientTolerance ∷ SimplexTolerance ∷ StepTolerance ∷ FunctionTolerance ∷ MaxIterations ∷ MaxFevals ∷ LineSearchFailed ∷ GradientFailed ∷ ObjectiveResolution ∷ []) f
 
 -- a field as converged
-unfoldable pub yesField : List ℕ → Option Bool
-yesField f = cond (same f (flagText true)) (some true) (cond (same f (flagText false)) (some false) none)
+unfoldable pub yes_field : List ℕ → Option Bool
+yes_field f = cond (same f (flag_text true)) (some true) (cond (same f (flag_text false)) (some false) none)
 
 -- the result that the fields after `end` say, each read as what stands at its place
-unfoldable pub resultIn : Option Termination → Option Bool → Reading → Reading → Reading → Reading → List Reading → Option Result
-resultIn (some r) (some c) it fe ge f xs =
-    someIf (it.ok && (fe.ok && (ge.ok && (f.ok && allOk xs))))
-    (record { reason = r; converged = c; iterations = it.word; fevals = fe.word; gevals = ge.word; f = valueIn f; x = map valueIn xs })
-resultIn (some r) none it fe ge f xs = none
-resultIn none c it fe ge f xs = none
+unfoldable pub result_in : Option Termination → Option Bool → Reading → Reading → Reading → Reading → List Reading → Option Result
+result_in (some r) (some c) it fe ge f xs =
+    some_if (it.ok && (fe.ok && (ge.ok && (f.ok && all_ok xs))))
+    (record { reason = r; converged = c; iterations = it.word; fevals = fe.word; gevals = ge.word; f = value_in f; x = map value_in xs })
+result_in (some r) none it fe ge f xs = none
+result_in none c it fe ge f xs = none
 
 -- "`end` has reason, converged, iterations, fevals, gevals, f, x"
-unfoldable pub endFields : List (List ℕ) → Option Result
-endFields [] = none
-endFields (e ∷ []) = none
-endFields (e ∷ r ∷ []) = none
-endFields (e ∷ r ∷ c ∷ []) = none
-endFields (e ∷ r ∷ c ∷ it ∷ []) = none
-endFields (e ∷ r ∷ c ∷ it ∷ fe ∷ []) = none
-endFields (e ∷ r ∷ c ∷ it ∷ fe ∷ ge ∷ []) = none
-endFields (e ∷ r ∷ c ∷ it ∷ fe ∷ ge ∷ f ∷ xs) =
-    cond (same e (101 ∷ 110 ∷ 100 ∷ [])) (resultIn (reasonField r) (yesField c) (decimalField it) (decimalField fe) (decimalField ge) (wordField f) (map wordField xs)) none
+unfoldable pub end_fields : List (List ℕ) → Option Result
+end_fields [] = none
+end_fields (e ∷ []) = none
+end_fields (e ∷ r ∷ []) = none
+end_fields (e ∷ r ∷ c ∷ []) = none
+end_fields (e ∷ r ∷ c ∷ it ∷ []) = none
+end_fields (e ∷ r ∷ c ∷ it ∷ fe ∷ []) = none
+end_fields (e ∷ r ∷ c ∷ it ∷ fe ∷ ge ∷ []) = none
+end_fields (e ∷ r ∷ c ∷ it ∷ fe ∷ ge ∷ f ∷ xs) =
+    cond (same e (101 ∷ 110 ∷ 100 ∷ [])) (result_in (reason_field r) (yes_field c) (decimal_field it) (decimal_field fe) (decimal_field ge) (word_field f) (map word_field xs)) none
 
 -- an `end` line, without its line feed
-abbrev pub endLine : List ℕ → Option Result
-endLine bs = endFields (fields bs)
+abbrev pub end_line : List ℕ → Option Result
+end_line bs = end_fields (fields bs)
 
 -- ---- the laws
 
@@ -68,15 +68,15 @@ pub record Printable (r : Result) : Type 0 where
   pub point : AllF64 r.x
 
 -- the answer that a question's number, kind and point would make
-abbrev pub echoOf : Question → Answer
-echoOf q = record { number = q.number; kind = letter q.kind; words = q.point }
+abbrev pub echo_of : Question → Answer
+echo_of q = record { number = q.number; kind = letter q.kind; words = q.point }
 
 pub record ReadBackLaws : Type 0 where
   -- a printed answer is read back as it was, whatever its count of words
-  pub answer-back : (a : Answer) (k : Kind) → a.kind ≡ letter k → a.number ≤ most → AllF64 a.words → answerLine (answerText a) ≡ some a
+  pub answer_back : (a : Answer) (k : Kind) → a.kind ≡ letter k → a.number ≤ most → AllF64 a.words → answer_line (answer_text a) ≡ some a
   -- a question's line is `ask`, an answer with its number, kind and point, and a line feed
-  pub ask-is : (q : Question) → askText q ≡ (97 ∷ 115 ∷ 107 ∷ 32 ∷ []) ++ (answerText (echoOf q) ++ (10 ∷ []))
+  pub ask_is : (q : Question) → ask_text q ≡ (97 ∷ 115 ∷ 107 ∷ 32 ∷ []) ++ (answer_text (echo_of q) ++ (10 ∷ []))
   -- a printed result is read back as it was
-  pub end-back : (r : Result) → Printable r → endLine (endBefore r []) ≡ some r
+  pub end_back : (r : Result) → Printable r → end_line (end_before r []) ≡ some r
   -- and its line is that and a line feed
-  pub end-is : (r : Result) → endText r ≡ endBefore r [] ++ (10 ∷ [])
+  pub end_is : (r : Result) → end_text r ≡ end_before r [] ++ (10 ∷ [])

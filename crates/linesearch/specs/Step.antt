@@ -1,71 +1,71 @@
 -- What each answer does to the record of the search: it takes what is told for the open question, and gives the record with the next question or the outcome. What the crates
 -- below define is passed on. Definitions only.
 use Rattle.std.specs.Prelude.{false, not, cond, List, ltb, eqb, replicate, Float}
-use Rattle.float.specs.Binary64.{plusZero}
-use Rattle.float.specs.Values.{finiteOf, minOf}
+use Rattle.float.specs.Binary64.{plus_zero}
+use Rattle.float.specs.Values.{finite_of, min_of}
 use Rattle.objective.specs.declared.Differences.{Differences}
 use Rattle.objective.specs.Step as objective
 use Rattle.linesearch_trials.specs.declared.Line.{Line}
 use Rattle.linesearch_trials.specs.declared.Fixed.{Fixed}
 use Rattle.linesearch_moves.specs.declared.Search.{Search}
-pub use Rattle.linesearch_trials.specs.Evaluations.{trialOf}
-unfoldable pub use Rattle.linesearch_trials.specs.Evaluations.{pointAtOf, nansOf, evaluatedOf, infeasibleOf}
-pub use Rattle.linesearch_moves.specs.Searches.{asksValue, asksGradient, asksDifference, found, failed, withBest, withEnds, withDiff, withValue, atStart}
-unfoldable pub use Rattle.linesearch_moves.specs.Searches.{precedingOf, risenOf, lowerOf, keepOf, failureOf, successOf, evalOf, zoomOf, bracketOf}
-unfoldable pub use Rattle.linesearch_moves.specs.Bracketing.{bracketedOf, zoomedOf, decidedOf}
+pub use Rattle.linesearch_trials.specs.Evaluations.{trial_of}
+unfoldable pub use Rattle.linesearch_trials.specs.Evaluations.{point_at_of, nans_of, evaluated_of, infeasible_of}
+pub use Rattle.linesearch_moves.specs.Searches.{asks_value, asks_gradient, asks_difference, found, failed, with_best, with_ends, with_diff, with_value, at_start}
+unfoldable pub use Rattle.linesearch_moves.specs.Searches.{preceding_of, risen_of, lower_of, keep_of, failure_of, success_of, eval_of, zoom_of, bracket_of}
+unfoldable pub use Rattle.linesearch_moves.specs.Bracketing.{bracketed_of, zoomed_of, decided_of}
 
-unfoldable pub gradedOf : Fixed → Line → Search → List Float → Search
-gradedOf fixed l s g = decidedOf fixed l s (evaluatedOf fixed l s.step s.value g)
+unfoldable pub graded_of : Fixed → Line → Search → List Float → Search
+graded_of fixed l s g = decided_of fixed l s (evaluated_of fixed l s.step s.value g)
 
 -- the differences have a question, or are done
-unfoldable pub differingOf : Fixed → Line → Search → Differences → Search
-differingOf fixed l s e = cond (ltb e.at fixed.n) (withDiff s asksDifference e) (gradedOf fixed l s e.g)
+unfoldable pub differing_of : Fixed → Line → Search → Differences → Search
+differing_of fixed l s e = cond (ltb e.at fixed.n) (with_diff s asks_difference e) (graded_of fixed l s e.g)
 
-unfoldable pub evalGradientOf : Fixed → Line → Search → Search
-evalGradientOf fixed l s = cond fixed.gradients (withDiff s asksGradient s.diff) (differingOf fixed l s (objective.begunOf (pointAtOf fixed l s.step)))
+unfoldable pub eval_gradient_of : Fixed → Line → Search → Search
+eval_gradient_of fixed l s = cond fixed.gradients (with_diff s asks_gradient s.diff) (differing_of fixed l s (objective.begun_of (point_at_of fixed l s.step)))
 
-unfoldable pub valuedOf : Fixed → Line → Search → Float → Search
-valuedOf fixed l s v = cond (finiteOf v) (evalGradientOf fixed l (withValue s v)) (decidedOf fixed l (withValue s v) (infeasibleOf fixed l s.step v))
+unfoldable pub valued_of : Fixed → Line → Search → Float → Search
+valued_of fixed l s v = cond (finite_of v) (eval_gradient_of fixed l (with_value s v)) (decided_of fixed l (with_value s v) (infeasible_of fixed l s.step v))
 
 -- ---- the whole
 
 abbrev pub zeros : List Float
-zeros = replicate 16 plusZero
+zeros = replicate 16 plus_zero
 
 -- before the first trial
-abbrev pub noTrial : Search
-noTrial =
-    let none = trialOf plusZero plusZero plusZero in
+abbrev pub no_trial : Search
+no_trial =
+    let none = trial_of plus_zero plus_zero plus_zero in
     record {
-      phase = asksValue;
+      phase = asks_value;
       zooming = false;
       trials = 0;
       previous = false;
       lo = none;
       hi = none;
-      step = plusZero;
-      value = plusZero;
+      step = plus_zero;
+      value = plus_zero;
       kept = false;
       best = record { trial = none; x = zeros; g = zeros };
-      diff = objective.begunOf zeros;
+      diff = objective.begun_of zeros;
     }
 
 -- "the step starts at min(initial_step, step_max)"
-unfoldable pub begunOf : Fixed → Line → Float → Search
-begunOf fixed l initial = bracketOf fixed l noTrial (minOf initial fixed.options.stepmax)
+unfoldable pub begun_of : Fixed → Line → Float → Search
+begun_of fixed l initial = bracket_of fixed l no_trial (min_of initial fixed.options.stepmax)
 
 -- the point of the open question
-unfoldable pub probeOf : Fixed → Line → Search → List Float
-probeOf fixed l s =
-    cond (not (eqb s.phase asksDifference)) (pointAtOf fixed l s.step)
-    (cond (ltb s.diff.at fixed.n) (objective.probeOf s.diff) s.diff.x)
+unfoldable pub probe_of : Fixed → Line → Search → List Float
+probe_of fixed l s =
+    cond (not (eqb s.phase asks_difference)) (point_at_of fixed l s.step)
+    (cond (ltb s.diff.at fixed.n) (objective.probe_of s.diff) s.diff.x)
 
 -- a value told: v is how a trial's is read, w how one for differences is; a record that asks for none stays as it is
-unfoldable pub toldOf : Fixed → Line → Search → Float → Float → Search
-toldOf fixed l s v w =
-    cond (eqb s.phase asksValue) (valuedOf fixed l s v)
-    (cond (not (eqb s.phase asksDifference)) s
-    (cond (ltb s.diff.at fixed.n) (differingOf fixed l s (objective.toldOf s.diff w)) s))
+unfoldable pub told_of : Fixed → Line → Search → Float → Float → Search
+told_of fixed l s v w =
+    cond (eqb s.phase asks_value) (valued_of fixed l s v)
+    (cond (not (eqb s.phase asks_difference)) s
+    (cond (ltb s.diff.at fixed.n) (differing_of fixed l s (objective.told_of s.diff w)) s))
 
-unfoldable pub toldGradientOf : Fixed → Line → Search → List Float → Search
-toldGradientOf fixed l s g = cond (eqb s.phase asksGradient) (gradedOf fixed l s g) s
+unfoldable pub told_gradient_of : Fixed → Line → Search → List Float → Search
+told_gradient_of fixed l s g = cond (eqb s.phase asks_gradient) (graded_of fixed l s g) s

@@ -3,7 +3,7 @@
 #![tactic(auto)]
 
 ghost use Rattle.std.specs.Prelude.{◌≡◌, ◌≤◌};
-ghost use Rattle.linesearch.specs.Step.{gradedOf, differingOf, evalGradientOf, valuedOf, begunOf, probeOf, toldOf, toldGradientOf};
+ghost use Rattle.linesearch.specs.Step.{graded_of, differing_of, eval_gradient_of, valued_of, begun_of, probe_of, told_of, told_gradient_of};
 
 pub use linesearch_moves::Search;
 use linesearch_moves::{ASKS_DIFFERENCE, ASKS_GRADIENT, ASKS_VALUE};
@@ -15,7 +15,7 @@ use objective::Differences;
 // The trial's gradient is g.
 fn graded(fixed: Fixed, l: Line, s: Search, g: [f64; 16]) -> Search
     requires { fixed.n ≤ 16 }
-    ensures { result ≡ gradedOf fixed l s g }
+    ensures { result ≡ graded_of fixed l s g }
 {
     linesearch_moves::decided(
         fixed,
@@ -28,7 +28,7 @@ fn graded(fixed: Fixed, l: Line, s: Search, g: [f64; 16]) -> Search
 // The differences have a question, or are done.
 fn differing(fixed: Fixed, l: Line, s: Search, e: Differences) -> Search
     requires { fixed.n ≤ 16 }
-    ensures { result ≡ differingOf fixed l s e }
+    ensures { result ≡ differing_of fixed l s e }
 {
     let g = e.g;
     if e.at < fixed.n {
@@ -43,7 +43,7 @@ fn differing(fixed: Fixed, l: Line, s: Search, e: Differences) -> Search
 // The trial's value is told and finite: its gradient is next.
 fn eval_gradient(fixed: Fixed, l: Line, s: Search) -> Search
     requires { fixed.n ≤ 16 }
-    ensures { result ≡ evalGradientOf fixed l s }
+    ensures { result ≡ eval_gradient_of fixed l s }
 {
     if fixed.gradients {
         let mut q = s;
@@ -57,7 +57,7 @@ fn eval_gradient(fixed: Fixed, l: Line, s: Search) -> Search
 // The trial's value is v.
 fn valued(fixed: Fixed, l: Line, s: Search, v: f64) -> Search
     requires { fixed.n ≤ 16 }
-    ensures { result ≡ valuedOf fixed l s v }
+    ensures { result ≡ valued_of fixed l s v }
 {
     let mut q = s;
     q.value = v;
@@ -74,7 +74,7 @@ fn valued(fixed: Fixed, l: Line, s: Search, v: f64) -> Search
 
 // The search along a line from a first step.
 pub fn begun(fixed: Fixed, l: Line, initial: f64) -> Search
-    ensures { result ≡ begunOf fixed l initial }
+    ensures { result ≡ begun_of fixed l initial }
 {
     let zero = [0.0; 16];
     let none = Trial {
@@ -107,7 +107,7 @@ pub fn begun(fixed: Fixed, l: Line, initial: f64) -> Search
 // The point of the open question.
 pub fn probe(fixed: Fixed, l: Line, s: Search) -> [f64; 16]
     requires { fixed.n ≤ 16 }
-    ensures { result ≡ probeOf fixed l s }
+    ensures { result ≡ probe_of fixed l s }
 {
     let e = s.diff;
     let x = e.x;
@@ -124,7 +124,7 @@ pub fn probe(fixed: Fixed, l: Line, s: Search) -> [f64; 16]
 // stays as it is.
 pub fn told(fixed: Fixed, l: Line, s: Search, v: f64, w: f64) -> Search
     requires { fixed.n ≤ 16 }
-    ensures { result ≡ toldOf fixed l s v w }
+    ensures { result ≡ told_of fixed l s v w }
 {
     let e = s.diff;
     if s.phase == ASKS_VALUE {
@@ -142,7 +142,7 @@ pub fn told(fixed: Fixed, l: Line, s: Search, v: f64, w: f64) -> Search
 // A gradient is told. A record that asks for none stays as it is.
 pub fn told_gradient(fixed: Fixed, l: Line, s: Search, g: [f64; 16]) -> Search
     requires { fixed.n ≤ 16 }
-    ensures { result ≡ toldGradientOf fixed l s g }
+    ensures { result ≡ told_gradient_of fixed l s g }
 {
     if s.phase == ASKS_GRADIENT {
         return graded(fixed, l, s, g);

@@ -1,40 +1,40 @@
 -- The decisions of a search, when the trial in hand is made. Definitions only.
 use Rattle.std.specs.Prelude.{true, not, cond}
 use Rattle.std.specs.Float.Ieee.{le}
-use Rattle.float.specs.Binary64.{◌⊖◌, ◌⊗◌, plusZero}
-use Rattle.float.specs.Values.{finiteOf, minOf}
+use Rattle.float.specs.Binary64.{◌⊖◌, ◌⊗◌, plus_zero}
+use Rattle.float.specs.Values.{finite_of, min_of}
 use Rattle.linesearch_trials.specs.declared.Evaluation.{Evaluation}
 use Rattle.linesearch_trials.specs.declared.Line.{Line}
 use Rattle.linesearch_trials.specs.declared.Fixed.{Fixed}
-use Rattle.linesearch_trials.specs.Trials.{two, armijoOf, curvatureOf}
+use Rattle.linesearch_trials.specs.Trials.{two, armijo_of, curvature_of}
 use Rattle.linesearch_moves.specs.declared.Search.{Search}
-use Rattle.linesearch_moves.specs.Searches.{withEnds, precedingOf, risenOf, keepOf, failureOf, successOf, zoomOf, bracketOf}
+use Rattle.linesearch_moves.specs.Searches.{with_ends, preceding_of, risen_of, keep_of, failure_of, success_of, zoom_of, bracket_of}
 
 -- Algorithm 3.5
-unfoldable pub bracketedOf : Fixed → Line → Search → Evaluation → Search
-bracketedOf fixed l s t =
+unfoldable pub bracketed_of : Fixed → Line → Search → Evaluation → Search
+bracketed_of fixed l s t =
     let o = fixed.options in
     let u = t.trial in
-    let p = precedingOf l s in
-    cond (not (armijoOf o l u)) (zoomOf fixed l s p u)
-    (cond (risenOf s u) (zoomOf fixed l s p u)
-    (cond (curvatureOf o l u) (successOf s t)
-    (cond (not (finiteOf u.slope)) (zoomOf fixed l s u p)
-    (cond (le plusZero u.slope) (zoomOf fixed l s u p)
-    (cond (le o.stepmax s.step) (failureOf l s)
-    (bracketOf fixed l (withEnds s s.zooming true u s.hi) (minOf (two ⊗ s.step) o.stepmax)))))))
+    let p = preceding_of l s in
+    cond (not (armijo_of o l u)) (zoom_of fixed l s p u)
+    (cond (risen_of s u) (zoom_of fixed l s p u)
+    (cond (curvature_of o l u) (success_of s t)
+    (cond (not (finite_of u.slope)) (zoom_of fixed l s u p)
+    (cond (le plus_zero u.slope) (zoom_of fixed l s u p)
+    (cond (le o.stepmax s.step) (failure_of l s)
+    (bracket_of fixed l (with_ends s s.zooming true u s.hi) (min_of (two ⊗ s.step) o.stepmax)))))))
 
 -- Algorithm 3.6
-unfoldable pub zoomedOf : Fixed → Line → Search → Evaluation → Search
-zoomedOf fixed l s t =
+unfoldable pub zoomed_of : Fixed → Line → Search → Evaluation → Search
+zoomed_of fixed l s t =
     let o = fixed.options in
     let u = t.trial in
-    cond (not (armijoOf o l u)) (zoomOf fixed l s s.lo u)
-    (cond (le s.lo.value u.value) (zoomOf fixed l s s.lo u)
-    (cond (curvatureOf o l u) (successOf s t)
-    (cond (not (finiteOf u.slope)) (zoomOf fixed l s s.lo u)
-    (cond (le plusZero (u.slope ⊗ (s.hi.step ⊖ s.lo.step))) (zoomOf fixed l s u s.lo)
-    (zoomOf fixed l s u s.hi)))))
+    cond (not (armijo_of o l u)) (zoom_of fixed l s s.lo u)
+    (cond (le s.lo.value u.value) (zoom_of fixed l s s.lo u)
+    (cond (curvature_of o l u) (success_of s t)
+    (cond (not (finite_of u.slope)) (zoom_of fixed l s s.lo u)
+    (cond (le plus_zero (u.slope ⊗ (s.hi.step ⊖ s.lo.step))) (zoom_of fixed l s u s.lo)
+    (zoom_of fixed l s u s.hi)))))
 
-unfoldable pub decidedOf : Fixed → Line → Search → Evaluation → Search
-decidedOf fixed l s t = cond s.zooming (zoomedOf fixed l (keepOf s t) t) (bracketedOf fixed l (keepOf s t) t)
+unfoldable pub decided_of : Fixed → Line → Search → Evaluation → Search
+decided_of fixed l s t = cond s.zooming (zoomed_of fixed l (keep_of s t) t) (bracketed_of fixed l (keep_of s t) t)

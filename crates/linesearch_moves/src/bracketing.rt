@@ -1,13 +1,13 @@
 // The decisions of a strong Wolfe search, when the trial in hand is made.
 ghost use Rattle.std.specs.Prelude.{◌≡◌};
-ghost use Rattle.linesearch_moves.specs.Bracketing.{bracketedOf, zoomedOf, decidedOf};
+ghost use Rattle.linesearch_moves.specs.Bracketing.{bracketed_of, zoomed_of, decided_of};
 
 use crate::Search;
 use linesearch_trials::{Evaluation, Fixed, Line};
 
 // Algorithm 3.5.
 fn bracketed(fixed: Fixed, l: Line, s: Search, t: Evaluation) -> Search
-    ensures { result ≡ bracketedOf fixed l s t }
+    ensures { result ≡ bracketed_of fixed l s t }
 {
     let o = fixed.options;
     let u = t.trial;
@@ -38,7 +38,7 @@ fn bracketed(fixed: Fixed, l: Line, s: Search, t: Evaluation) -> Search
 
 // Algorithm 3.6.
 fn zoomed(fixed: Fixed, l: Line, s: Search, t: Evaluation) -> Search
-    ensures { result ≡ zoomedOf fixed l s t }
+    ensures { result ≡ zoomed_of fixed l s t }
 {
     let o = fixed.options;
     let lo = s.lo;
@@ -63,7 +63,7 @@ fn zoomed(fixed: Fixed, l: Line, s: Search, t: Evaluation) -> Search
 }
 
 pub fn decided(fixed: Fixed, l: Line, s: Search, t: Evaluation) -> Search
-    ensures { result ≡ decidedOf fixed l s t }
+    ensures { result ≡ decided_of fixed l s t }
 {
     let q = crate::keep(s, t);
     if s.zooming {

@@ -5,7 +5,7 @@
 mod bracketing;
 
 ghost use Rattle.std.specs.Prelude.{◌≡◌, ◌<◌};
-ghost use Rattle.linesearch_moves.specs.Searches.{precedingOf, risenOf, lowerOf, keepOf, failureOf, successOf, evalOf, zoomOf, bracketOf};
+ghost use Rattle.linesearch_moves.specs.Searches.{preceding_of, risen_of, lower_of, keep_of, failure_of, success_of, eval_of, zoom_of, bracket_of};
 
 pub use bracketing::decided;
 use linesearch_trials::{Evaluation, Fixed, Line, Trial};
@@ -43,7 +43,7 @@ pub struct Search {
 
 // The trial before the one in hand, or the start of the line.
 pub fn preceding(l: Line, s: Search) -> Trial
-    ensures { result ≡ precedingOf l s }
+    ensures { result ≡ preceding_of l s }
 {
     let lo = s.lo;
     if s.previous {
@@ -54,7 +54,7 @@ pub fn preceding(l: Line, s: Search) -> Trial
 
 // Whether there is a trial before, and its value is not above.
 pub fn risen(s: Search, t: Trial) -> bool
-    ensures { result ≡ risenOf s t }
+    ensures { result ≡ risen_of s t }
 {
     let lo = s.lo;
     if !s.previous {
@@ -65,7 +65,7 @@ pub fn risen(s: Search, t: Trial) -> bool
 
 // Whether the best gives way.
 fn lower(s: Search, t: Evaluation) -> bool
-    ensures { result ≡ lowerOf s t }
+    ensures { result ≡ lower_of s t }
 {
     if !s.kept {
         return true;
@@ -75,7 +75,7 @@ fn lower(s: Search, t: Evaluation) -> bool
 
 // The best finite trial, the first on ties.
 pub fn keep(s: Search, t: Evaluation) -> Search
-    ensures { result ≡ keepOf s t }
+    ensures { result ≡ keep_of s t }
 {
     if !float::is_finite(t.trial.value) {
         return s;
@@ -91,7 +91,7 @@ pub fn keep(s: Search, t: Evaluation) -> Search
 
 // The best trial below the start, or else the start.
 pub fn failure(l: Line, s: Search) -> Search
-    ensures { result ≡ failureOf l s }
+    ensures { result ≡ failure_of l s }
 {
     let x = l.x;
     let g = l.g;
@@ -112,7 +112,7 @@ pub fn failure(l: Line, s: Search) -> Search
 
 // Both conditions are met at t.
 pub fn success(s: Search, t: Evaluation) -> Search
-    ensures { result ≡ successOf s t }
+    ensures { result ≡ success_of s t }
 {
     let mut q = s;
     q.phase = FOUND;
@@ -123,7 +123,7 @@ pub fn success(s: Search, t: Evaluation) -> Search
 // The next trial, at the step a: its value is asked for.
 fn eval(s: Search, a: f64) -> Search
     requires { s.trials < 18446744073709551615 }
-    ensures { result ≡ evalOf s a }
+    ensures { result ≡ eval_of s a }
 {
     let mut q = s;
     q.phase = ASKS_VALUE;
@@ -134,7 +134,7 @@ fn eval(s: Search, a: f64) -> Search
 
 // The next trial between lo and hi.
 pub fn zoom(fixed: Fixed, l: Line, s: Search, lo: Trial, hi: Trial) -> Search
-    ensures { result ≡ zoomOf fixed l s lo hi }
+    ensures { result ≡ zoom_of fixed l s lo hi }
 {
     let mut q = s;
     q.zooming = true;
@@ -151,7 +151,7 @@ pub fn zoom(fixed: Fixed, l: Line, s: Search, lo: Trial, hi: Trial) -> Search
 
 // The next trial in doubling.
 pub fn bracket(fixed: Fixed, l: Line, s: Search, a: f64) -> Search
-    ensures { result ≡ bracketOf fixed l s a }
+    ensures { result ≡ bracket_of fixed l s a }
 {
     if fixed.options.evals <= s.trials {
         return failure(l, s);

@@ -2,25 +2,25 @@
 use Rattle.std.specs.Prelude.{ℕ, List, Float}
 use Rattle.std.specs.Float.{nan}
 use Rattle.vector.specs.Loops.{point}
-use Rattle.vector.specs.Points.{dotOf, plusScaledOf}
+use Rattle.vector.specs.Points.{dot_of, plus_scaled_of}
 use Rattle.linesearch_trials.specs.declared.Trial.{Trial}
 use Rattle.linesearch_trials.specs.declared.Evaluation.{Evaluation}
 use Rattle.linesearch_trials.specs.declared.Line.{Line}
 use Rattle.linesearch_trials.specs.declared.Fixed.{Fixed}
 
-unfoldable pub pointAtOf : Fixed → Line → Float → List Float
-pointAtOf fixed l a = plusScaledOf l.x a l.d fixed.n
+unfoldable pub point_at_of : Fixed → Line → Float → List Float
+point_at_of fixed l a = plus_scaled_of l.x a l.d fixed.n
 
 -- n of them
-unfoldable pub nansOf : ℕ → List Float
-nansOf = point (λ i. nan)
+unfoldable pub nans_of : ℕ → List Float
+nans_of = point (λ i. nan)
 
-abbrev pub trialOf : Float → Float → Float → Trial
-trialOf a v slope = record { step = a; value = v; slope = slope }
+abbrev pub trial_of : Float → Float → Float → Trial
+trial_of a v slope = record { step = a; value = v; slope = slope }
 
-unfoldable pub evaluatedOf : Fixed → Line → Float → Float → List Float → Evaluation
-evaluatedOf fixed l a v g = record { trial = trialOf a v (dotOf g l.d fixed.n); x = pointAtOf fixed l a; g = g }
+unfoldable pub evaluated_of : Fixed → Line → Float → Float → List Float → Evaluation
+evaluated_of fixed l a v g = record { trial = trial_of a v (dot_of g l.d fixed.n); x = point_at_of fixed l a; g = g }
 
 -- where the value is not finite the gradient is not asked for
-unfoldable pub infeasibleOf : Fixed → Line → Float → Float → Evaluation
-infeasibleOf fixed l a v = record { trial = trialOf a v nan; x = pointAtOf fixed l a; g = nansOf fixed.n }
+unfoldable pub infeasible_of : Fixed → Line → Float → Float → Evaluation
+infeasible_of fixed l a v = record { trial = trial_of a v nan; x = point_at_of fixed l a; g = nans_of fixed.n }

@@ -1,13 +1,13 @@
 // Trials with their points and gradients, made from the line.
 ghost use Rattle.std.specs.Prelude.{◌≡◌, ◌≤◌};
-ghost use Rattle.linesearch_trials.specs.Evaluations.{pointAtOf, nansOf, evaluatedOf, infeasibleOf};
+ghost use Rattle.linesearch_trials.specs.Evaluations.{point_at_of, nans_of, evaluated_of, infeasible_of};
 
 use crate::{Evaluation, Fixed, Line, Trial};
 
 // The point at a step.
 pub fn point_at(fixed: Fixed, l: Line, a: f64) -> [f64; 16]
     requires { fixed.n ≤ 16 }
-    ensures { result ≡ pointAtOf fixed l a }
+    ensures { result ≡ point_at_of fixed l a }
 {
     let x = l.x;
     let d = l.d;
@@ -17,7 +17,7 @@ pub fn point_at(fixed: Fixed, l: Line, a: f64) -> [f64; 16]
 // The gradient of a trial whose value is not finite.
 fn nans(n: usize) -> [f64; 16]
     requires { n ≤ 16 }
-    ensures { result ≡ nansOf n }
+    ensures { result ≡ nans_of n }
 {
     let mut r = [0.0; 16];
     let mut i: usize = 0;
@@ -30,7 +30,7 @@ fn nans(n: usize) -> [f64; 16]
 
 pub fn evaluated(fixed: Fixed, l: Line, a: f64, v: f64, g: [f64; 16]) -> Evaluation
     requires { fixed.n ≤ 16 }
-    ensures { result ≡ evaluatedOf fixed l a v g }
+    ensures { result ≡ evaluated_of fixed l a v g }
 {
     let d = l.d;
     let x = point_at(fixed, l, a);
@@ -46,7 +46,7 @@ pub fn evaluated(fixed: Fixed, l: Line, a: f64, v: f64, g: [f64; 16]) -> Evaluat
 // Where the value is not finite the gradient is not asked for.
 pub fn infeasible(fixed: Fixed, l: Line, a: f64, v: f64) -> Evaluation
     requires { fixed.n ≤ 16 }
-    ensures { result ≡ infeasibleOf fixed l a v }
+    ensures { result ≡ infeasible_of fixed l a v }
 {
     let x = point_at(fixed, l, a);
     let g = nans(fixed.n);

@@ -6,8 +6,8 @@ mod evaluations;
 mod refusals;
 
 ghost use Rattle.std.specs.Prelude.{◌≡◌};
-ghost use Rattle.linesearch_trials.specs.Cubic.{midpointOf, nearEndOf, d1Of, minimiserOf, interpolateOf};
-ghost use Rattle.linesearch_trials.specs.Trials.{startOf, armijoOf, curvatureOf, narrowOf};
+ghost use Rattle.linesearch_trials.specs.Cubic.{midpoint_of, near_end_of, d1_of, minimiser_of, interpolate_of};
+ghost use Rattle.linesearch_trials.specs.Trials.{start_of, armijo_of, curvature_of, narrow_of};
 
 pub use evaluations::{evaluated, infeasible, point_at};
 use protocol::WolfeOptions;
@@ -53,14 +53,14 @@ pub struct Fixed {
 }
 
 fn midpoint(lo: Trial, hi: Trial) -> f64
-    ensures { result ≡ midpointOf lo hi }
+    ensures { result ≡ midpoint_of lo hi }
 {
     0.5 * (lo.step + hi.step)
 }
 
 // Whether a is not finite, or at or outside the margin from either of two steps.
 fn near_end(a: f64, p: f64, q: f64) -> bool
-    ensures { result ≡ nearEndOf a p q }
+    ensures { result ≡ near_end_of a p q }
 {
     let lo = float::min(p, q);
     let hi = float::max(p, q);
@@ -75,14 +75,14 @@ fn near_end(a: f64, p: f64, q: f64) -> bool
 }
 
 fn d1(lo: Trial, hi: Trial) -> f64
-    ensures { result ≡ d1Of lo hi }
+    ensures { result ≡ d1_of lo hi }
 {
     lo.slope + hi.slope - 3.0 * (lo.value - hi.value) / (lo.step - hi.step)
 }
 
 // The minimiser of the cubic with this discriminant, or the midpoint.
 fn minimiser(lo: Trial, hi: Trial, d1: f64, disc: f64) -> f64
-    ensures { result ≡ minimiserOf lo hi d1 disc }
+    ensures { result ≡ minimiser_of lo hi d1 disc }
 {
     let d2 = float::signum(hi.step - lo.step) * float::sqrt(disc);
     let denom = hi.slope - lo.slope + 2.0 * d2;
@@ -101,7 +101,7 @@ fn minimiser(lo: Trial, hi: Trial, d1: f64, disc: f64) -> f64
 
 // The step of the next trial between two.
 pub fn interpolate(lo: Trial, hi: Trial) -> f64
-    ensures { result ≡ interpolateOf lo hi }
+    ensures { result ≡ interpolate_of lo hi }
 {
     if !float::is_finite(lo.value) {
         return midpoint(lo, hi);
@@ -125,7 +125,7 @@ pub fn interpolate(lo: Trial, hi: Trial) -> f64
 
 // The trial at step 0.
 pub fn start(l: Line) -> Trial
-    ensures { result ≡ startOf l }
+    ensures { result ≡ start_of l }
 {
     Trial {
         step: 0.0,
@@ -136,14 +136,14 @@ pub fn start(l: Line) -> Trial
 
 // Whether the value has decreased enough.
 pub fn armijo(o: WolfeOptions, l: Line, t: Trial) -> bool
-    ensures { result ≡ armijoOf o l t }
+    ensures { result ≡ armijo_of o l t }
 {
     t.value <= l.f + o.c1 * t.step * l.slope
 }
 
 // Whether the slope is flat enough.
 pub fn curvature(o: WolfeOptions, l: Line, t: Trial) -> bool
-    ensures { result ≡ curvatureOf o l t }
+    ensures { result ≡ curvature_of o l t }
 {
     if !float::is_finite(t.slope) {
         return false;
@@ -153,7 +153,7 @@ pub fn curvature(o: WolfeOptions, l: Line, t: Trial) -> bool
 
 // Whether no step between the two is left.
 pub fn narrow(lo: Trial, hi: Trial) -> bool
-    ensures { result ≡ narrowOf lo hi }
+    ensures { result ≡ narrow_of lo hi }
 {
     float::abs(hi.step - lo.step)
         <= MIN_REL_WIDTH * float::max(float::max(float::abs(lo.step), float::abs(hi.step)), 1.0)

@@ -1,7 +1,7 @@
 // What a search starts from, and the tests of `strong_wolfe`.
 ghost use Rattle.std.specs.Prelude.{◌≡◌, ◌≤◌};
 ghost use Rattle.protocol.specs.Protocol.{refusal};
-ghost use Rattle.linesearch_trials.specs.Start.{lineFromOf, optionsRefusalOf, countsRefusalOf, lineRefusalOf};
+ghost use Rattle.linesearch_trials.specs.Start.{line_from_of, options_refusal_of, counts_refusal_of, line_refusal_of};
 
 use crate::Line;
 use protocol::{Refusal, WolfeOptions};
@@ -9,7 +9,7 @@ use protocol::{Refusal, WolfeOptions};
 // The line from x along d, where the value is f and the gradient g.
 pub fn line_from(x: [f64; 16], d: [f64; 16], f: f64, g: [f64; 16], n: usize) -> Line
     requires { n ≤ 16 }
-    ensures { result ≡ lineFromOf x d f g n }
+    ensures { result ≡ line_from_of x d f g n }
 {
     let slope = vector::dot(g, d, n);
     Line { x, g, d, f, slope }
@@ -23,7 +23,7 @@ fn refuse(number: u64, detail: u64) -> Refusal
 
 // 5, 6 and 7.
 pub fn options_refusal(o: WolfeOptions) -> Refusal
-    ensures { result ≡ optionsRefusalOf o }
+    ensures { result ≡ options_refusal_of o }
 {
     if !(0.0 < o.c1) {
         return refuse(5, 1);
@@ -48,7 +48,7 @@ pub fn options_refusal(o: WolfeOptions) -> Refusal
 
 // 9, 10 and 11, by the counts of coordinates that were lent.
 pub fn counts_refusal(n: usize, dcount: usize, gcount: usize) -> Refusal
-    ensures { result ≡ countsRefusalOf n dcount gcount }
+    ensures { result ≡ counts_refusal_of n dcount gcount }
 {
     if n == 0 {
         return refuse(9, 0);
@@ -65,7 +65,7 @@ pub fn counts_refusal(n: usize, dcount: usize, gcount: usize) -> Refusal
 // 12, 13 and 14.
 pub fn line_refusal(n: usize, l: Line, step: f64) -> Refusal
     requires { n ≤ 16 }
-    ensures { result ≡ lineRefusalOf n l step }
+    ensures { result ≡ line_refusal_of n l step }
 {
     let x = l.x;
     let d = l.d;

@@ -7,37 +7,37 @@ use native.Mathlib.Omega.{arith}
 use lib.Dec.{eqb}
 use lib.Ieee.{Float, lt}
 use borrow.Author.Tests.{leb-false, eq-eqb, ne_eqb}
-use Rattle.vector.specs.Points.{towardsOf}
-use Rattle.float.specs.Values.{absOf}
+use Rattle.vector.specs.Points.{towards_of}
+use Rattle.float.specs.Values.{abs_of}
 use Rattle.float.proofs.Tests.{by}
 use Rattle.neldermead_vertices.specs.declared.Vertex.{Vertex}
 use Rattle.neldermead_vertices.specs.Method.{alpha, better, resolution}
-use Rattle.neldermead_vertices.specs.Vertices.{vertexAt, sortedOf, centroidOf, convergedOf}
+use Rattle.neldermead_vertices.specs.Vertices.{vertex_at, sorted_of, centroid_of, converged_of}
 use Rattle.neldermead.specs.declared.Fixed.{Fixed}
 use Rattle.neldermead.specs.declared.Simplex.{Simplex}
-use Rattle.neldermead.specs.Step.{building, reflecting, byTolerance, byResolution, phased, asked, withOrder, withRound, rerun, orderedOf, trialOf, reflectOf, reasonOf, doneOf, testedOf, headedOf}
-use Rattle.neldermead.specs.Parts.{verdictOf}
-use Rattle.neldermead.proofs.Cases.{verdict-cases}
+use Rattle.neldermead.specs.Step.{building, reflecting, by_tolerance, by_resolution, phased, asked, with_order, with_round, rerun, ordered_of, trial_of, reflect_of, reason_of, done_of, tested_of, headed_of}
+use Rattle.neldermead.specs.Parts.{verdict_of}
+use Rattle.neldermead.proofs.Cases.{verdict_cases}
 
 -- a run stops for one of two reasons
-reason-cases : (ftol f : Float) (P : ℕ → Type 0) → P byResolution → P byTolerance → P (reasonOf ftol f)
-unfolding reasonOf
-reason-cases ftol f P i j = by (lt ftol (resolution (absOf f))) (λ e. rw e i) (λ e. rw e j)
+reason_cases : (ftol f : Float) (P : ℕ → Type 0) → P by_resolution → P by_tolerance → P (reason_of ftol f)
+unfolding reason_of
+reason_cases ftol f P i j = by (lt ftol (resolution (abs_of f))) (λ e. rw e i) (λ e. rw e j)
 
 -- what each phase makes of the vertices in order
-abbrev headOf : Fixed → Simplex → ℕ → Simplex
-headOf fit q p = cond (eqb p building) (rerun q) (cond (eqb p reflecting) (reflectOf fit.n q) (phased q p))
+abbrev head_of : Fixed → Simplex → ℕ → Simplex
+head_of fit q p = cond (eqb p building) (rerun q) (cond (eqb p reflecting) (reflect_of fit.n q) (phased q p))
 
 module _ (fit : Fixed) (q : Simplex) (fevals : ℕ) where
-  abbrev phaseOf : ℕ
-  phaseOf = verdictOf fit (convergedOf fit.options q.v fit.n) (vertexAt q.v 0).f q.rounds q.runs fevals
+  abbrev phase_of : ℕ
+  phase_of = verdict_of fit (converged_of fit.options q.v fit.n) (vertex_at q.v 0).f q.rounds q.runs fevals
 
-  head-parts : headOf fit q phaseOf ≡ testedOf fit q fevals
-  unfolding testedOf doneOf
-  head-parts =
-      verdict-cases fit (convergedOf fit.options q.v fit.n) (vertexAt q.v 0).f q.rounds q.runs fevals (λ w. headOf fit q w ≡ testedOf fit q fevals)
+  head_parts : head_of fit q phase_of ≡ tested_of fit q fevals
+  unfolding tested_of done_of
+  head_parts =
+      verdict_cases fit (converged_of fit.options q.v fit.n) (vertex_at q.v 0).f q.rounds q.runs fevals (λ w. head_of fit q w ≡ tested_of fit q fevals)
       (record {
-        ends = λ e m. rw (e, m) (reason-cases fit.options.ftol (vertexAt q.v 0).f (λ w. headOf fit q w ≡ phased q w) refl refl);
+        ends = λ e m. rw (e, m) (reason_cases fit.options.ftol (vertex_at q.v 0).f (λ w. head_of fit q w ≡ phased q w) refl refl);
         reruns = λ e m. rw (e, m);
         iterations = λ e m. rw (e, m);
         evaluations = λ e m o. rw (e, m, o);
@@ -45,58 +45,58 @@ module _ (fit : Fixed) (q : Simplex) (fevals : ℕ) where
       })
 
   -- each return of the code
-  head-reruns : (p : ℕ) → p ≡ building → phased (rerun q) p ≡ headOf fit q p
-  head-reruns p e = rw (eq-eqb p building e) (ap (phased (rerun q)) e)
+  head_reruns : (p : ℕ) → p ≡ building → phased (rerun q) p ≡ head_of fit q p
+  head_reruns p e = rw (eq-eqb p building e) (ap (phased (rerun q)) e)
 
-  head-reflects : (p : ℕ) → (p ≡ building → ⊥) → p ≡ reflecting → (c x : List Float) → c ≡ centroidOf q.v fit.n → x ≡ towardsOf c (vertexAt q.v fit.n).x alpha fit.n
-      → asked (withRound q c) p q.at x ≡ headOf fit q p
-  unfolding reflectOf trialOf
-  head-reflects p a e c x i j = rw (ne_eqb p building a, eq-eqb p reflecting e, ← i, ← j) (ap (λ (y : ℕ). asked (withRound q c) y q.at x) e)
+  head_reflects : (p : ℕ) → (p ≡ building → ⊥) → p ≡ reflecting → (c x : List Float) → c ≡ centroid_of q.v fit.n → x ≡ towards_of c (vertex_at q.v fit.n).x alpha fit.n
+      → asked (with_round q c) p q.at x ≡ head_of fit q p
+  unfolding reflect_of trial_of
+  head_reflects p a e c x i j = rw (ne_eqb p building a, eq-eqb p reflecting e, ← i, ← j) (ap (λ (y : ℕ). asked (with_round q c) y q.at x) e)
 
-  head-ends : (p : ℕ) → (p ≡ building → ⊥) → (p ≡ reflecting → ⊥) → phased q p ≡ headOf fit q p
-  head-ends p a b = rw (ne_eqb p building a, ne_eqb p reflecting b)
+  head_ends : (p : ℕ) → (p ≡ building → ⊥) → (p ≡ reflecting → ⊥) → phased q p ≡ head_of fit q p
+  head_ends p a b = rw (ne_eqb p building a, ne_eqb p reflecting b)
 
 -- the head by what the calls gave
 module _ (fit : Fixed) (s : Simplex) (fevals : ℕ) (w : List Vertex) (b : Vertex) (done : Bool) (p : ℕ)
-    (i : w ≡ sortedOf s.v fit.n) (j : b ≡ better (vertexAt w 0) s.best) (k : done ≡ convergedOf fit.options w fit.n)
-    (l : p ≡ verdictOf fit done (vertexAt w 0).f s.rounds s.runs fevals) where
+    (i : w ≡ sorted_of s.v fit.n) (j : b ≡ better (vertex_at w 0) s.best) (k : done ≡ converged_of fit.options w fit.n)
+    (l : p ≡ verdict_of fit done (vertex_at w 0).f s.rounds s.runs fevals) where
   abbrev q : Simplex
-  q = withOrder s w b
+  q = with_order s w b
 
-  by-phase : headOf fit q p ≡ headedOf fit s fevals
-  unfolding headedOf orderedOf
-  by-phase =
+  by_phase : head_of fit q p ≡ headed_of fit s fevals
+  unfolding headed_of ordered_of
+  by_phase =
       rw (← i, ← j)
-      (ap (headOf fit q) (l ∙ ap (λ (d : Bool). verdictOf fit d (vertexAt w 0).f s.rounds s.runs fevals) k) ∙ head-parts fit q fevals)
+      (ap (head_of fit q) (l ∙ ap (λ (d : Bool). verdict_of fit d (vertex_at w 0).f s.rounds s.runs fevals) k) ∙ head_parts fit q fevals)
 
-  pub headed-reruns : p ≡ building → phased (rerun q) p ≡ headedOf fit s fevals
-  headed-reruns e = head-reruns fit q fevals p e ∙ by-phase
+  pub headed_reruns : p ≡ building → phased (rerun q) p ≡ headed_of fit s fevals
+  headed_reruns e = head_reruns fit q fevals p e ∙ by_phase
 
-  pub headed-reflects : (p ≡ building → ⊥) → p ≡ reflecting → (c x : List Float) → c ≡ centroidOf w fit.n → x ≡ towardsOf c (vertexAt w fit.n).x alpha fit.n
-      → asked (withRound q c) p s.at x ≡ headedOf fit s fevals
-  headed-reflects a e c x f g = head-reflects fit q fevals p a e c x f g ∙ by-phase
+  pub headed_reflects : (p ≡ building → ⊥) → p ≡ reflecting → (c x : List Float) → c ≡ centroid_of w fit.n → x ≡ towards_of c (vertex_at w fit.n).x alpha fit.n
+      → asked (with_round q c) p s.at x ≡ headed_of fit s fevals
+  headed_reflects a e c x f g = head_reflects fit q fevals p a e c x f g ∙ by_phase
 
-  pub headed-ends : (p ≡ building → ⊥) → (p ≡ reflecting → ⊥) → phased q p ≡ headedOf fit s fevals
-  headed-ends a e = head-ends fit q fevals p a e ∙ by-phase
+  pub headed_ends : (p ≡ building → ⊥) → (p ≡ reflecting → ⊥) → phased q p ≡ headed_of fit s fevals
+  headed_ends a e = head_ends fit q fevals p a e ∙ by_phase
 
 -- another run or round is within its allowance
 module _ (fit : Fixed) (done : Bool) (f : Float) (rounds runs fevals : ℕ) where
-  pub runs-left : verdictOf fit done f rounds runs fevals ≡ building → runs < fit.options.restarts
-  runs-left =
-      verdict-cases fit done f rounds runs fevals (λ w. w ≡ building → runs < fit.options.restarts)
+  pub runs_left : verdict_of fit done f rounds runs fevals ≡ building → runs < fit.options.restarts
+  runs_left =
+      verdict_cases fit done f rounds runs fevals (λ w. w ≡ building → runs < fit.options.restarts)
       (record {
-        ends = λ e m. reason-cases fit.options.ftol f (λ w. w ≡ building → runs < fit.options.restarts) (λ z. absurd (omega (arith, z))) (λ z. absurd (omega (arith, z)));
+        ends = λ e m. reason_cases fit.options.ftol f (λ w. w ≡ building → runs < fit.options.restarts) (λ z. absurd (omega (arith, z))) (λ z. absurd (omega (arith, z)));
         reruns = λ e m z. leb-false _ _ m;
         iterations = λ e m z. absurd (omega (arith, z));
         evaluations = λ e m o z. absurd (omega (arith, z));
         goes = λ e m o z. absurd (omega (arith, z));
       })
 
-  pub rounds-left : verdictOf fit done f rounds runs fevals ≡ reflecting → rounds < fit.iter
-  rounds-left =
-      verdict-cases fit done f rounds runs fevals (λ w. w ≡ reflecting → rounds < fit.iter)
+  pub rounds_left : verdict_of fit done f rounds runs fevals ≡ reflecting → rounds < fit.iter
+  rounds_left =
+      verdict_cases fit done f rounds runs fevals (λ w. w ≡ reflecting → rounds < fit.iter)
       (record {
-        ends = λ e m. reason-cases fit.options.ftol f (λ w. w ≡ reflecting → rounds < fit.iter) (λ z. absurd (omega (arith, z))) (λ z. absurd (omega (arith, z)));
+        ends = λ e m. reason_cases fit.options.ftol f (λ w. w ≡ reflecting → rounds < fit.iter) (λ z. absurd (omega (arith, z))) (λ z. absurd (omega (arith, z)));
         reruns = λ e m z. absurd (omega (arith, z));
         iterations = λ e m z. absurd (omega (arith, z));
         evaluations = λ e m o z. absurd (omega (arith, z));

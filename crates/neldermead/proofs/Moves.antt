@@ -9,54 +9,54 @@ use lib.Ieee.{Float}
 use borrow.Author.Tests.{ltb-true, lt-ltb, le-ltb, eq-eqb, ne_eqb}
 use Rattle.float.proofs.Tests.{by}
 use Rattle.neldermead_vertices.specs.declared.Vertex.{Vertex}
-use Rattle.neldermead_vertices.specs.Vertices.{vertexAt, anyFiniteOf}
+use Rattle.neldermead_vertices.specs.Vertices.{vertex_at, any_finite_of}
 use Rattle.neldermead.specs.declared.Fixed.{Fixed}
 use Rattle.neldermead.specs.declared.Simplex.{Simplex}
-use Rattle.neldermead.specs.Step.{building, reflecting, shrinking, notFinite, vertexOf, phased, asked, withRefl, withVertex, trialOf, headedOf, buildOf, settledOf, builtOf, replacedOf, reflectedOf, expandedOf, shrinkOf, outsideOf, insideOf, shrinkingOf, toldOf}
-use Rattle.neldermead.specs.Parts.{built, keeps, outcomeOf, placeOf, nextAtOf, farOf, coefficientOf, nextPointOf, nextPhaseOf}
-use Rattle.neldermead.proofs.Cases.{outcome-cases}
+use Rattle.neldermead.specs.Step.{building, reflecting, shrinking, not_finite, vertex_of, phased, asked, with_refl, with_vertex, trial_of, headed_of, build_of, settled_of, built_of, replaced_of, reflected_of, expanded_of, shrink_of, outside_of, inside_of, shrinking_of, told_of}
+use Rattle.neldermead.specs.Parts.{built, keeps, outcome_of, place_of, next_at_of, far_of, coefficient_of, next_point_of, next_phase_of}
+use Rattle.neldermead.proofs.Cases.{outcome_cases}
 
 module _ (fit : Fixed) (s : Simplex) (f : Float) (fevals : ℕ) where
   abbrev pub here : Vertex
-  here = vertexOf s.x f
+  here = vertex_of s.x f
 
   abbrev pub outcome : ℕ
-  outcome = outcomeOf s.phase s.at fit.n f (vertexAt s.v 0).f (vertexAt s.v (fit.n - 1)).f (vertexAt s.v fit.n).f s.refl.f
+  outcome = outcome_of s.phase s.at fit.n f (vertex_at s.v 0).f (vertex_at s.v (fit.n - 1)).f (vertex_at s.v fit.n).f s.refl.f
 
   abbrev pub place : ℕ → ℕ
-  place w = placeOf s.phase s.at fit.n w
+  place w = place_of s.phase s.at fit.n w
 
   -- the record with the reflected point; with it in the worst vertex's place; with the point told in place i
   abbrev pub noted : Simplex
-  noted = cond (eqb s.phase reflecting) (withRefl s here) s
+  noted = cond (eqb s.phase reflecting) (with_refl s here) s
 
-  abbrev pub keptOf : Simplex → ℕ → Simplex
-  keptOf q w = cond (eqb w keeps) (withVertex q fit.n q.refl) q
+  abbrev pub kept_of : Simplex → ℕ → Simplex
+  kept_of q w = cond (eqb w keeps) (with_vertex q fit.n q.refl) q
 
-  abbrev pub putOf : Simplex → ℕ → Simplex
-  putOf q i = cond (ltb i 17) (withVertex q i here) q
+  abbrev pub put_of : Simplex → ℕ → Simplex
+  put_of q i = cond (ltb i 17) (with_vertex q i here) q
 
   -- the next question
-  abbrev pub nextOf : Simplex → ℕ → ℕ → Simplex
-  nextOf q w i =
-      let at = nextAtOf q.phase q.at w in
-      asked q (nextPhaseOf q.phase w) at (nextPointOf fit.options fit.n i w s.x q.cen (vertexAt q.v 0) (vertexAt q.v (farOf fit.n at w)))
+  abbrev pub next_of : Simplex → ℕ → ℕ → Simplex
+  next_of q w i =
+      let at = next_at_of q.phase q.at w in
+      asked q (next_phase_of q.phase w) at (next_point_of fit.options fit.n i w s.x q.cen (vertex_at q.v 0) (vertex_at q.v (far_of fit.n at w)))
 
-  abbrev pub onwardOf : Simplex → ℕ → ℕ → Simplex
-  onwardOf q w i =
-      cond (eqb w built) (cond (anyFiniteOf q.v (fit.n + 1)) (headedOf fit q fevals) (phased q notFinite))
-      (cond (ltb shrinking w) (headedOf fit q fevals) (nextOf q w i))
+  abbrev pub onward_of : Simplex → ℕ → ℕ → Simplex
+  onward_of q w i =
+      cond (eqb w built) (cond (any_finite_of q.v (fit.n + 1)) (headed_of fit q fevals) (phased q not_finite))
+      (cond (ltb shrinking w) (headed_of fit q fevals) (next_of q w i))
 
-  abbrev pub tellOf : ℕ → Simplex
-  tellOf w = onwardOf (putOf (keptOf noted w) (place w)) w (place w)
+  abbrev pub tell_of : ℕ → Simplex
+  tell_of w = onward_of (put_of (kept_of noted w) (place w)) w (place w)
 
   module _ (few : fit.n ≤ 16) (within : s.at ≤ fit.n) where
-    pub told-parts : tellOf outcome ≡ toldOf fit s f fevals
-    unfolding toldOf builtOf buildOf settledOf reflectedOf trialOf replacedOf expandedOf shrinkOf outsideOf insideOf shrinkingOf placeOf nextAtOf farOf coefficientOf nextPointOf nextPhaseOf
-    told-parts =
+    pub told_parts : tell_of outcome ≡ told_of fit s f fevals
+    unfolding told_of built_of build_of settled_of reflected_of trial_of replaced_of expanded_of shrink_of outside_of inside_of shrinking_of place_of next_at_of far_of coefficient_of next_point_of next_phase_of
+    told_parts =
         let at : ltb s.at 17 ≡ true = lt-ltb s.at 17 (omega (arith, few, within)) in
         let n : ltb fit.n 17 ≡ true = lt-ltb fit.n 17 (omega (arith, few)) in
-        outcome-cases s.phase s.at fit.n f (vertexAt s.v 0).f (vertexAt s.v (fit.n - 1)).f (vertexAt s.v fit.n).f s.refl.f (λ w. tellOf w ≡ toldOf fit s f fevals)
+        outcome_cases s.phase s.at fit.n f (vertex_at s.v 0).f (vertex_at s.v (fit.n - 1)).f (vertex_at s.v fit.n).f s.refl.f (λ w. tell_of w ≡ told_of fit s f fevals)
         (record {
           builds = λ p m. rw (p, m, at);
           completes = λ p m. rw (p, m, at);
@@ -72,14 +72,14 @@ module _ (fit : Fixed) (s : Simplex) (f : Float) (fevals : ℕ) where
           lost = λ p m. rw (p, m);
           draws = λ p m. rw (p, m, at);
           drawn = λ p m. rw (p, m, at);
-          ended = λ e. rw (e.not-building, e.not-reflecting, e.not-expanding, e.not-outside, e.not-inside, e.not-shrinking);
+          ended = λ e. rw (e.not_building, e.not_reflecting, e.not_expanding, e.not_outside, e.not_inside, e.not_shrinking);
         })
 
     -- the coordinate that is displaced, and the vertex that the next point is made from
-    pub corner-within : outcome ≡ building → place outcome < 16
-    unfolding placeOf
-    corner-within =
-        outcome-cases s.phase s.at fit.n f (vertexAt s.v 0).f (vertexAt s.v (fit.n - 1)).f (vertexAt s.v fit.n).f s.refl.f (λ w. w ≡ building → place w < 16)
+    pub corner_within : outcome ≡ building → place outcome < 16
+    unfolding place_of
+    corner_within =
+        outcome_cases s.phase s.at fit.n f (vertex_at s.v 0).f (vertex_at s.v (fit.n - 1)).f (vertex_at s.v fit.n).f s.refl.f (λ w. w ≡ building → place w < 16)
         (record {
           builds = λ p m z. rw p (let h : s.at < 16 = omega (arith, few, ltb-true s.at fit.n m) in h);
           completes = λ p m z. absurd (omega (arith, z));
@@ -98,10 +98,10 @@ module _ (fit : Fixed) (s : Simplex) (f : Float) (fevals : ℕ) where
           ended = λ e z. absurd (omega (arith, z));
         })
 
-    pub far-within : farOf fit.n (nextAtOf s.phase s.at outcome) outcome < 17
-    unfolding farOf nextAtOf
-    far-within =
-        outcome-cases s.phase s.at fit.n f (vertexAt s.v 0).f (vertexAt s.v (fit.n - 1)).f (vertexAt s.v fit.n).f s.refl.f (λ w. farOf fit.n (nextAtOf s.phase s.at w) w < 17)
+    pub far_within : far_of fit.n (next_at_of s.phase s.at outcome) outcome < 17
+    unfolding far_of next_at_of
+    far_within =
+        outcome_cases s.phase s.at fit.n f (vertex_at s.v 0).f (vertex_at s.v (fit.n - 1)).f (vertex_at s.v fit.n).f s.refl.f (λ w. far_of fit.n (next_at_of s.phase s.at w) w < 17)
         (record {
           builds = λ p m. omega (arith, few);
           completes = λ p m. omega (arith, few);
@@ -121,70 +121,70 @@ module _ (fit : Fixed) (s : Simplex) (f : Float) (fevals : ℕ) where
         })
 
   -- the phase and the position stay until the next question
-  noted-at : noted.at ≡ s.at
-  noted-at = by (eqb s.phase reflecting) (λ e. rw e) (λ e. rw e)
+  noted_at : noted.at ≡ s.at
+  noted_at = by (eqb s.phase reflecting) (λ e. rw e) (λ e. rw e)
 
-  noted-phase : noted.phase ≡ s.phase
-  noted-phase = by (eqb s.phase reflecting) (λ e. rw e) (λ e. rw e)
+  noted_phase : noted.phase ≡ s.phase
+  noted_phase = by (eqb s.phase reflecting) (λ e. rw e) (λ e. rw e)
 
-  pub put-at : (w i : ℕ) → (putOf (keptOf noted w) i).at ≡ s.at
-  put-at w i = by (ltb i 17) (λ e. rw e (kept-at w)) (λ e. rw e (kept-at w))
+  pub put_at : (w i : ℕ) → (put_of (kept_of noted w) i).at ≡ s.at
+  put_at w i = by (ltb i 17) (λ e. rw e (kept_at w)) (λ e. rw e (kept_at w))
     where
-      kept-at : (w : ℕ) → (keptOf noted w).at ≡ s.at
-      kept-at w = by (eqb w keeps) (λ e. rw e noted-at) (λ e. rw e noted-at)
+      kept_at : (w : ℕ) → (kept_of noted w).at ≡ s.at
+      kept_at w = by (eqb w keeps) (λ e. rw e noted_at) (λ e. rw e noted_at)
 
-  pub put-phase : (w i : ℕ) → (putOf (keptOf noted w) i).phase ≡ s.phase
-  put-phase w i = by (ltb i 17) (λ e. rw e (kept-phase w)) (λ e. rw e (kept-phase w))
+  pub put_phase : (w i : ℕ) → (put_of (kept_of noted w) i).phase ≡ s.phase
+  put_phase w i = by (ltb i 17) (λ e. rw e (kept_phase w)) (λ e. rw e (kept_phase w))
     where
-      kept-phase : (w : ℕ) → (keptOf noted w).phase ≡ s.phase
-      kept-phase w = by (eqb w keeps) (λ e. rw e noted-phase) (λ e. rw e noted-phase)
+      kept_phase : (w : ℕ) → (kept_of noted w).phase ≡ s.phase
+      kept_phase w = by (eqb w keeps) (λ e. rw e noted_phase) (λ e. rw e noted_phase)
 
   -- ---- by the branch that was taken
 
-  pub noted-taken : s.phase ≡ reflecting → withRefl s here ≡ noted
-  noted-taken e = rw (eq-eqb s.phase reflecting e)
+  pub noted_taken : s.phase ≡ reflecting → with_refl s here ≡ noted
+  noted_taken e = rw (eq-eqb s.phase reflecting e)
 
-  pub noted-left : (s.phase ≡ reflecting → ⊥) → s ≡ noted
-  noted-left e = rw (ne_eqb s.phase reflecting e)
+  pub noted_left : (s.phase ≡ reflecting → ⊥) → s ≡ noted
+  noted_left e = rw (ne_eqb s.phase reflecting e)
 
   module _ (q : Simplex) (w i : ℕ) where
-    pub kept-taken : w ≡ keeps → withVertex q fit.n q.refl ≡ keptOf q w
-    kept-taken e = rw (eq-eqb w keeps e)
+    pub kept_taken : w ≡ keeps → with_vertex q fit.n q.refl ≡ kept_of q w
+    kept_taken e = rw (eq-eqb w keeps e)
 
-    pub kept-left : (w ≡ keeps → ⊥) → q ≡ keptOf q w
-    kept-left e = rw (ne_eqb w keeps e)
+    pub kept_left : (w ≡ keeps → ⊥) → q ≡ kept_of q w
+    kept_left e = rw (ne_eqb w keeps e)
 
-    pub put-taken : i < 17 → withVertex q i here ≡ putOf q i
-    put-taken h = rw (lt-ltb i 17 h)
+    pub put_taken : i < 17 → with_vertex q i here ≡ put_of q i
+    put_taken h = rw (lt-ltb i 17 h)
 
-    pub put-left : 17 ≤ i → q ≡ putOf q i
-    put-left h = rw (le-ltb i 17 h)
+    pub put_left : 17 ≤ i → q ≡ put_of q i
+    put_left h = rw (le-ltb i 17 h)
 
     -- each return of the code
-    pub onward-fails : (b : Bool) → w ≡ built → b ≡ anyFiniteOf q.v (fit.n + 1) → b ≡ false → phased q notFinite ≡ onwardOf q w i
-    onward-fails b e g h = rw (eq-eqb w built e, sym g ∙ h)
+    pub onward_fails : (b : Bool) → w ≡ built → b ≡ any_finite_of q.v (fit.n + 1) → b ≡ false → phased q not_finite ≡ onward_of q w i
+    onward_fails b e g h = rw (eq-eqb w built e, sym g ∙ h)
 
-    pub onward-whole : (b : Bool) → w ≡ built → b ≡ anyFiniteOf q.v (fit.n + 1) → b ≡ true → headedOf fit q fevals ≡ onwardOf q w i
-    onward-whole b e g h = rw (eq-eqb w built e, sym g ∙ h)
+    pub onward_whole : (b : Bool) → w ≡ built → b ≡ any_finite_of q.v (fit.n + 1) → b ≡ true → headed_of fit q fevals ≡ onward_of q w i
+    onward_whole b e g h = rw (eq-eqb w built e, sym g ∙ h)
 
-    pub onward-heads : (w ≡ built → ⊥) → shrinking < w → headedOf fit q fevals ≡ onwardOf q w i
-    onward-heads e h = rw (ne_eqb w built e, lt-ltb shrinking w h)
+    pub onward_heads : (w ≡ built → ⊥) → shrinking < w → headed_of fit q fevals ≡ onward_of q w i
+    onward_heads e h = rw (ne_eqb w built e, lt-ltb shrinking w h)
 
-    pub onward-asks : w ≤ shrinking → (at far phase : ℕ) (y : List Float) → at ≡ nextAtOf q.phase q.at w → far ≡ farOf fit.n at w
-        → y ≡ nextPointOf fit.options fit.n i w s.x q.cen (vertexAt q.v 0) (vertexAt q.v far) → phase ≡ nextPhaseOf q.phase w → asked q phase at y ≡ onwardOf q w i
-    onward-asks h at far phase y a b c d = rw (ne_eqb w built (λ z. absurd (omega (arith, h, z))), le-ltb shrinking w h, ← a, ← b, ← c, ← d)
+    pub onward_asks : w ≤ shrinking → (at far phase : ℕ) (y : List Float) → at ≡ next_at_of q.phase q.at w → far ≡ far_of fit.n at w
+        → y ≡ next_point_of fit.options fit.n i w s.x q.cen (vertex_at q.v 0) (vertex_at q.v far) → phase ≡ next_phase_of q.phase w → asked q phase at y ≡ onward_of q w i
+    onward_asks h at far phase y a b c d = rw (ne_eqb w built (λ z. absurd (omega (arith, h, z))), le-ltb shrinking w h, ← a, ← b, ← c, ← d)
 
-  pub told-by : fit.n ≤ 16 → s.at ≤ fit.n → (w i : ℕ) (q : Simplex) → w ≡ outcome → i ≡ place w → q ≡ putOf (keptOf noted w) i → onwardOf q w i ≡ toldOf fit s f fevals
-  told-by few within w i q a b c =
-      ap (λ (p : Simplex). onwardOf p w i) c ∙ ap (λ (j : ℕ). onwardOf (putOf (keptOf noted w) j) w j) b ∙ ap tellOf a ∙ told-parts few within
+  pub told_by : fit.n ≤ 16 → s.at ≤ fit.n → (w i : ℕ) (q : Simplex) → w ≡ outcome → i ≡ place w → q ≡ put_of (kept_of noted w) i → onward_of q w i ≡ told_of fit s f fevals
+  told_by few within w i q a b c =
+      ap (λ (p : Simplex). onward_of p w i) c ∙ ap (λ (j : ℕ). onward_of (put_of (kept_of noted w) j) w j) b ∙ ap tell_of a ∙ told_parts few within
 
   -- the same two bounds by what the calls gave
   module _ (few : fit.n ≤ 16) (within : s.at ≤ fit.n) (w : ℕ) (a : w ≡ outcome) where
-    pub corner-below : (i : ℕ) → i ≡ place w → w ≡ building → i < 16
-    corner-below i b z = subst (λ (y : ℕ). y < 16) (sym (b ∙ ap place a)) (corner-within few within (sym a ∙ z))
+    pub corner_below : (i : ℕ) → i ≡ place w → w ≡ building → i < 16
+    corner_below i b z = subst (λ (y : ℕ). y < 16) (sym (b ∙ ap place a)) (corner_within few within (sym a ∙ z))
 
-    pub far-below : (q : Simplex) (at far : ℕ) → q.phase ≡ s.phase → q.at ≡ s.at → at ≡ nextAtOf q.phase q.at w → far ≡ farOf fit.n at w → far < 17
-    far-below q at far p m b c =
+    pub far_below : (q : Simplex) (at far : ℕ) → q.phase ≡ s.phase → q.at ≡ s.at → at ≡ next_at_of q.phase q.at w → far ≡ far_of fit.n at w → far < 17
+    far_below q at far p m b c =
         subst (λ (y : ℕ). y < 17)
-        (sym (c ∙ ap (λ (y : ℕ). farOf fit.n y w) (b ∙ ap (λ (y : ℕ). nextAtOf y q.at w) p ∙ ap (λ (y : ℕ). nextAtOf s.phase y w) m) ∙ ap (λ (y : ℕ). farOf fit.n (nextAtOf s.phase s.at y) y) a))
-        (far-within few within)
+        (sym (c ∙ ap (λ (y : ℕ). far_of fit.n y w) (b ∙ ap (λ (y : ℕ). next_at_of y q.at w) p ∙ ap (λ (y : ℕ). next_at_of s.phase y w) m) ∙ ap (λ (y : ℕ). far_of fit.n (next_at_of s.phase s.at y) y) a))
+        (far_within few within)

@@ -2,15 +2,15 @@
 use Rattle.std.specs.Prelude.{ℕ, ◌+◌, ◌-◌, false, cond, List, leb, ltb, eqb, set, replicate, Float}
 use Rattle.std.specs.Float.{inf}
 use Rattle.std.specs.Float.Ieee.{neg, lt, le}
-use Rattle.float.specs.Binary64.{◌⊗◌, plusZero}
-use Rattle.float.specs.Values.{absOf}
-use Rattle.vector.specs.Points.{towardsOf, shrunkOf}
+use Rattle.float.specs.Binary64.{◌⊗◌, plus_zero}
+use Rattle.float.specs.Values.{abs_of}
+use Rattle.vector.specs.Points.{towards_of, shrunk_of}
 use Rattle.protocol.specs.declared.SimplexOptions.{SimplexOptions}
 use Rattle.neldermead_vertices.specs.declared.Vertex.{Vertex}
 use Rattle.neldermead.specs.declared.Fixed.{Fixed}
 use Rattle.neldermead.specs.declared.Simplex.{Simplex}
 use Rattle.neldermead_vertices.specs.Method.{alpha, beta, gamma, delta, resolution, better}
-use Rattle.neldermead_vertices.specs.Vertices.{vertexAt, sortedOf, centroidOf, cornerOf, anyFiniteOf, convergedOf}
+use Rattle.neldermead_vertices.specs.Vertices.{vertex_at, sorted_of, centroid_of, corner_of, any_finite_of, converged_of}
 
 -- ---- the phases: what the open question is for, or how the fit has ended: SimplexTolerance, ObjectiveResolution, MaxIterations, MaxFevals, refusal 20
 
@@ -23,34 +23,34 @@ reflecting = 2
 abbrev pub expanding : ℕ
 expanding = 3
 
-abbrev pub contractingOutside : ℕ
-contractingOutside = 4
+abbrev pub contracting_outside : ℕ
+contracting_outside = 4
 
-abbrev pub contractingInside : ℕ
-contractingInside = 5
+abbrev pub contracting_inside : ℕ
+contracting_inside = 5
 
 abbrev pub shrinking : ℕ
 shrinking = 6
 
-abbrev pub byTolerance : ℕ
-byTolerance = 7
+abbrev pub by_tolerance : ℕ
+by_tolerance = 7
 
-abbrev pub byResolution : ℕ
-byResolution = 8
+abbrev pub by_resolution : ℕ
+by_resolution = 8
 
-abbrev pub bySimplexIterations : ℕ
-bySimplexIterations = 9
+abbrev pub by_simplex_iterations : ℕ
+by_simplex_iterations = 9
 
-abbrev pub bySimplexFevals : ℕ
-bySimplexFevals = 10
+abbrev pub by_simplex_fevals : ℕ
+by_simplex_fevals = 10
 
-abbrev pub notFinite : ℕ
-notFinite = 11
+abbrev pub not_finite : ℕ
+not_finite = 11
 
 -- ---- the record with some fields set
 
-abbrev pub vertexOf : List Float → Float → Vertex
-vertexOf x f = record { x = x; f = f }
+abbrev pub vertex_of : List Float → Float → Vertex
+vertex_of x f = record { x = x; f = f }
 
 module _ (s : Simplex) where
   -- in another phase
@@ -61,18 +61,18 @@ module _ (s : Simplex) where
   abbrev pub asked : ℕ → ℕ → List Float → Simplex
   asked p i x = record { phase = p; at = i; rounds = s.rounds; runs = s.runs; x = x; best = s.best; cen = s.cen; refl = s.refl; v = s.v }
 
-  abbrev pub withOrder : List Vertex → Vertex → Simplex
-  withOrder v b = record { phase = s.phase; at = s.at; rounds = s.rounds; runs = s.runs; x = s.x; best = b; cen = s.cen; refl = s.refl; v = v }
+  abbrev pub with_order : List Vertex → Vertex → Simplex
+  with_order v b = record { phase = s.phase; at = s.at; rounds = s.rounds; runs = s.runs; x = s.x; best = b; cen = s.cen; refl = s.refl; v = v }
 
-  abbrev pub withRefl : Vertex → Simplex
-  withRefl r = record { phase = s.phase; at = s.at; rounds = s.rounds; runs = s.runs; x = s.x; best = s.best; cen = s.cen; refl = r; v = s.v }
+  abbrev pub with_refl : Vertex → Simplex
+  with_refl r = record { phase = s.phase; at = s.at; rounds = s.rounds; runs = s.runs; x = s.x; best = s.best; cen = s.cen; refl = r; v = s.v }
 
-  abbrev pub withVertex : ℕ → Vertex → Simplex
-  withVertex i u = record { phase = s.phase; at = s.at; rounds = s.rounds; runs = s.runs; x = s.x; best = s.best; cen = s.cen; refl = s.refl; v = set s.v i u }
+  abbrev pub with_vertex : ℕ → Vertex → Simplex
+  with_vertex i u = record { phase = s.phase; at = s.at; rounds = s.rounds; runs = s.runs; x = s.x; best = s.best; cen = s.cen; refl = s.refl; v = set s.v i u }
 
   -- one round more, about the centroid c
-  abbrev pub withRound : List Float → Simplex
-  withRound c = record { phase = s.phase; at = s.at; rounds = s.rounds + 1; runs = s.runs; x = s.x; best = s.best; cen = c; refl = s.refl; v = s.v }
+  abbrev pub with_round : List Float → Simplex
+  with_round c = record { phase = s.phase; at = s.at; rounds = s.rounds + 1; runs = s.runs; x = s.x; best = s.best; cen = c; refl = s.refl; v = s.v }
 
   -- one run more, about the best point
   abbrev pub rerun : Simplex
@@ -81,104 +81,104 @@ module _ (s : Simplex) where
 -- ---- the head of a round
 
 -- the vertices in order, and the best of all runs
-unfoldable pub orderedOf : ℕ → Simplex → Simplex
-orderedOf n s = let w = sortedOf s.v n in withOrder s w (better (vertexAt w 0) s.best)
+unfoldable pub ordered_of : ℕ → Simplex → Simplex
+ordered_of n s = let w = sorted_of s.v n in with_order s w (better (vertex_at w 0) s.best)
 
 -- the trial point with a coefficient
-unfoldable pub trialOf : ℕ → Simplex → ℕ → Float → Simplex
-trialOf n s p coef = asked s p s.at (towardsOf s.cen (vertexAt s.v n).x coef n)
+unfoldable pub trial_of : ℕ → Simplex → ℕ → Float → Simplex
+trial_of n s p coef = asked s p s.at (towards_of s.cen (vertex_at s.v n).x coef n)
 
-unfoldable pub reflectOf : ℕ → Simplex → Simplex
-reflectOf n s = trialOf n (withRound s (centroidOf s.v n)) reflecting alpha
+unfoldable pub reflect_of : ℕ → Simplex → Simplex
+reflect_of n s = trial_of n (with_round s (centroid_of s.v n)) reflecting alpha
 
 -- why a run stops whose least value is f
-unfoldable pub reasonOf : Float → Float → ℕ
-reasonOf ftol f = cond (lt ftol (resolution (absOf f))) byResolution byTolerance
+unfoldable pub reason_of : Float → Float → ℕ
+reason_of ftol f = cond (lt ftol (resolution (abs_of f))) by_resolution by_tolerance
 
 -- the end for this reason, or with restarts left another run
-abbrev pub rerunOrEnd : ℕ → Simplex → ℕ → Simplex
-rerunOrEnd restarts s why = cond (leb restarts s.runs) (phased s why) (rerun s)
+abbrev pub rerun_or_end : ℕ → Simplex → ℕ → Simplex
+rerun_or_end restarts s why = cond (leb restarts s.runs) (phased s why) (rerun s)
 
 -- a run is done
-unfoldable pub doneOf : SimplexOptions → Simplex → Simplex
-doneOf o s = rerunOrEnd o.restarts s (reasonOf o.ftol (vertexAt s.v 0).f)
+unfoldable pub done_of : SimplexOptions → Simplex → Simplex
+done_of o s = rerun_or_end o.restarts s (reason_of o.ftol (vertex_at s.v 0).f)
 
 -- "size and spread, then max_iter, then max_fevals"
-unfoldable pub testedOf : Fixed → Simplex → ℕ → Simplex
-testedOf fit s fevals =
-    cond (convergedOf fit.options s.v fit.n) (doneOf fit.options s)
-    (cond (leb fit.iter s.rounds) (phased s bySimplexIterations)
-    (cond (leb fit.fevals fevals) (phased s bySimplexFevals)
-    (reflectOf fit.n s)))
+unfoldable pub tested_of : Fixed → Simplex → ℕ → Simplex
+tested_of fit s fevals =
+    cond (converged_of fit.options s.v fit.n) (done_of fit.options s)
+    (cond (leb fit.iter s.rounds) (phased s by_simplex_iterations)
+    (cond (leb fit.fevals fevals) (phased s by_simplex_fevals)
+    (reflect_of fit.n s)))
 
-unfoldable pub headedOf : Fixed → Simplex → ℕ → Simplex
-headedOf fit s fevals = testedOf fit (orderedOf fit.n s) fevals
+unfoldable pub headed_of : Fixed → Simplex → ℕ → Simplex
+headed_of fit s fevals = tested_of fit (ordered_of fit.n s) fevals
 
 -- ---- a new simplex
 
 -- the vertex in which coordinate i of the seed, the first vertex, is displaced
-unfoldable pub buildOf : Float → Simplex → ℕ → Simplex
-buildOf initial s i = asked s s.phase (i + 1) (cornerOf initial (vertexAt s.v 0).x i)
+unfoldable pub build_of : Float → Simplex → ℕ → Simplex
+build_of initial s i = asked s s.phase (i + 1) (corner_of initial (vertex_at s.v 0).x i)
 
 -- all vertices are told
-unfoldable pub settledOf : Fixed → Simplex → ℕ → Simplex
-settledOf fit s fevals = cond (anyFiniteOf s.v (fit.n + 1)) (headedOf fit s fevals) (phased s notFinite)
+unfoldable pub settled_of : Fixed → Simplex → ℕ → Simplex
+settled_of fit s fevals = cond (any_finite_of s.v (fit.n + 1)) (headed_of fit s fevals) (phased s not_finite)
 
-unfoldable pub builtOf : Fixed → Simplex → Float → ℕ → Simplex
-builtOf fit s f fevals =
-    let q = withVertex s s.at (vertexOf s.x f) in
-    cond (ltb s.at fit.n) (buildOf fit.options.step q s.at) (settledOf fit q fevals)
+unfoldable pub built_of : Fixed → Simplex → Float → ℕ → Simplex
+built_of fit s f fevals =
+    let q = with_vertex s s.at (vertex_of s.x f) in
+    cond (ltb s.at fit.n) (build_of fit.options.step q s.at) (settled_of fit q fevals)
 
 -- ---- a round
 
 -- the worst vertex gives way to u
-unfoldable pub replacedOf : Fixed → Simplex → Vertex → ℕ → Simplex
-replacedOf fit s u fevals = headedOf fit (withVertex s fit.n u) fevals
+unfoldable pub replaced_of : Fixed → Simplex → Vertex → ℕ → Simplex
+replaced_of fit s u fevals = headed_of fit (with_vertex s fit.n u) fevals
 
-unfoldable pub reflectedOf : Fixed → Simplex → Float → ℕ → Simplex
-reflectedOf fit s f fevals =
+unfoldable pub reflected_of : Fixed → Simplex → Float → ℕ → Simplex
+reflected_of fit s f fevals =
     let n = fit.n in
-    let u = vertexOf s.x f in
-    let q = withRefl s u in
-    cond (lt f (vertexAt s.v 0).f) (trialOf n q expanding (alpha ⊗ beta fit.options n))
-    (cond (lt f (vertexAt s.v (n - 1)).f) (replacedOf fit q u fevals)
-    (cond (lt f (vertexAt s.v n).f) (trialOf n q contractingOutside (alpha ⊗ gamma fit.options n))
-    (trialOf n q contractingInside (neg (gamma fit.options n)))))
+    let u = vertex_of s.x f in
+    let q = with_refl s u in
+    cond (lt f (vertex_at s.v 0).f) (trial_of n q expanding (alpha ⊗ beta fit.options n))
+    (cond (lt f (vertex_at s.v (n - 1)).f) (replaced_of fit q u fevals)
+    (cond (lt f (vertex_at s.v n).f) (trial_of n q contracting_outside (alpha ⊗ gamma fit.options n))
+    (trial_of n q contracting_inside (neg (gamma fit.options n)))))
 
 -- the better of the expanded and the reflected point
-unfoldable pub expandedOf : Fixed → Simplex → Float → ℕ → Simplex
-expandedOf fit s f fevals = cond (lt f s.refl.f) (replacedOf fit s (vertexOf s.x f) fevals) (replacedOf fit s s.refl fevals)
+unfoldable pub expanded_of : Fixed → Simplex → Float → ℕ → Simplex
+expanded_of fit s f fevals = cond (lt f s.refl.f) (replaced_of fit s (vertex_of s.x f) fevals) (replaced_of fit s s.refl fevals)
 
 -- vertex i drawn to the best, and asked for
-unfoldable pub shrinkOf : Fixed → Simplex → ℕ → Simplex
-shrinkOf fit s i = asked s shrinking i (shrunkOf (vertexAt s.v 0).x (vertexAt s.v i).x (delta fit.options fit.n) fit.n)
+unfoldable pub shrink_of : Fixed → Simplex → ℕ → Simplex
+shrink_of fit s i = asked s shrinking i (shrunk_of (vertex_at s.v 0).x (vertex_at s.v i).x (delta fit.options fit.n) fit.n)
 
-unfoldable pub outsideOf : Fixed → Simplex → Float → ℕ → Simplex
-outsideOf fit s f fevals = cond (le f s.refl.f) (replacedOf fit s (vertexOf s.x f) fevals) (shrinkOf fit s 1)
+unfoldable pub outside_of : Fixed → Simplex → Float → ℕ → Simplex
+outside_of fit s f fevals = cond (le f s.refl.f) (replaced_of fit s (vertex_of s.x f) fevals) (shrink_of fit s 1)
 
-unfoldable pub insideOf : Fixed → Simplex → Float → ℕ → Simplex
-insideOf fit s f fevals = cond (lt f (vertexAt s.v fit.n).f) (replacedOf fit s (vertexOf s.x f) fevals) (shrinkOf fit s 1)
+unfoldable pub inside_of : Fixed → Simplex → Float → ℕ → Simplex
+inside_of fit s f fevals = cond (lt f (vertex_at s.v fit.n).f) (replaced_of fit s (vertex_of s.x f) fevals) (shrink_of fit s 1)
 
-unfoldable pub shrinkingOf : Fixed → Simplex → Float → ℕ → Simplex
-shrinkingOf fit s f fevals =
-    let q = withVertex s s.at (vertexOf s.x f) in
-    cond (ltb s.at fit.n) (shrinkOf fit q (s.at + 1)) (headedOf fit q fevals)
+unfoldable pub shrinking_of : Fixed → Simplex → Float → ℕ → Simplex
+shrinking_of fit s f fevals =
+    let q = with_vertex s s.at (vertex_of s.x f) in
+    cond (ltb s.at fit.n) (shrink_of fit q (s.at + 1)) (headed_of fit q fevals)
 
 -- ---- the answer to the open question, and the start
 
 -- by what the question is for; a fit that has ended stays as it is
-unfoldable pub toldOf : Fixed → Simplex → Float → ℕ → Simplex
-toldOf fit s f fevals =
-    cond (eqb s.phase building) (builtOf fit s f fevals)
-    (cond (eqb s.phase reflecting) (reflectedOf fit s f fevals)
-    (cond (eqb s.phase expanding) (expandedOf fit s f fevals)
-    (cond (eqb s.phase contractingOutside) (outsideOf fit s f fevals)
-    (cond (eqb s.phase contractingInside) (insideOf fit s f fevals)
-    (cond (eqb s.phase shrinking) (shrinkingOf fit s f fevals)
+unfoldable pub told_of : Fixed → Simplex → Float → ℕ → Simplex
+told_of fit s f fevals =
+    cond (eqb s.phase building) (built_of fit s f fevals)
+    (cond (eqb s.phase reflecting) (reflected_of fit s f fevals)
+    (cond (eqb s.phase expanding) (expanded_of fit s f fevals)
+    (cond (eqb s.phase contracting_outside) (outside_of fit s f fevals)
+    (cond (eqb s.phase contracting_inside) (inside_of fit s f fevals)
+    (cond (eqb s.phase shrinking) (shrinking_of fit s f fevals)
     s)))))
 
 -- best_x = x0, best_f = infinity, and the first vertex of the first simplex is asked for
-unfoldable pub startOf : List Float → Simplex
-startOf x =
-    let u = vertexOf (replicate 16 plusZero) plusZero in
-    record { phase = building; at = 0; rounds = 0; runs = 0; x = x; best = vertexOf x (inf false); cen = replicate 16 plusZero; refl = u; v = replicate 17 u }
+unfoldable pub start_of : List Float → Simplex
+start_of x =
+    let u = vertex_of (replicate 16 plus_zero) plus_zero in
+    record { phase = building; at = 0; rounds = 0; runs = 0; x = x; best = vertex_of x (inf false); cen = replicate 16 plus_zero; refl = u; v = replicate 17 u }

@@ -3,8 +3,8 @@
 #![tactic(auto)]
 
 ghost use Rattle.std.specs.Prelude.{◌≡◌, ◌≤◌, ◌<◌};
-ghost use Rattle.neldermead.specs.Step.{building, reasonOf, headedOf, toldOf, startOf};
-ghost use Rattle.neldermead.specs.Parts.{amongOf, takenOf, reflectionOf, outcomeOf, placeOf, nextAtOf, farOf, coefficientOf, nextPointOf, nextPhaseOf, verdictOf};
+ghost use Rattle.neldermead.specs.Step.{building, reason_of, headed_of, told_of, start_of};
+ghost use Rattle.neldermead.specs.Parts.{among_of, taken_of, reflection_of, outcome_of, place_of, next_at_of, far_of, coefficient_of, next_point_of, next_phase_of, verdict_of};
 
 use neldermead_vertices::Vertex;
 use protocol::SimplexOptions;
@@ -81,7 +81,7 @@ pub struct Simplex {
 
 // By whether vertices are left to be asked for.
 fn among(at: usize, n: usize, more: u64, last: u64) -> u64
-    ensures { result ≡ amongOf at n more last }
+    ensures { result ≡ among_of at n more last }
 {
     if at < n {
         return more;
@@ -91,7 +91,7 @@ fn among(at: usize, n: usize, more: u64, last: u64) -> u64
 
 // By whether the point told is good enough to be taken.
 fn taken(good: bool, otherwise: u64) -> u64
-    ensures { result ≡ takenOf good otherwise }
+    ensures { result ≡ taken_of good otherwise }
 {
     if good {
         return TAKES;
@@ -101,7 +101,7 @@ fn taken(good: bool, otherwise: u64) -> u64
 
 // What the value of the reflected point comes to.
 fn reflection(f: f64, best: f64, second: f64, worst: f64) -> u64
-    ensures { result ≡ reflectionOf f best second worst }
+    ensures { result ≡ reflection_of f best second worst }
 {
     if f < best {
         return EXPANDING;
@@ -126,7 +126,7 @@ fn outcome(
     worst: f64,
     refl: f64,
 ) -> u64
-    ensures { result ≡ outcomeOf phase at n f best second worst refl }
+    ensures { result ≡ outcome_of phase at n f best second worst refl }
 {
     if phase == BUILDING {
         return among(at, n, BUILDING, BUILT);
@@ -151,7 +151,7 @@ fn outcome(
 
 // The place among the vertices of the point told; 17 where it has none.
 fn place(phase: u64, at: usize, n: usize, what: u64) -> usize
-    ensures { result ≡ placeOf phase at n what }
+    ensures { result ≡ place_of phase at n what }
 {
     if phase == BUILDING {
         return at;
@@ -168,7 +168,7 @@ fn place(phase: u64, at: usize, n: usize, what: u64) -> usize
 // The vertex that is asked for next.
 fn next_at(phase: u64, at: usize, what: u64) -> usize
     requires { at ≤ 16 }
-    ensures { result ≡ nextAtOf phase at what }
+    ensures { result ≡ next_at_of phase at what }
 {
     if what == BUILDING {
         return at + 1;
@@ -184,7 +184,7 @@ fn next_at(phase: u64, at: usize, what: u64) -> usize
 
 // The vertex from which the next point is made: the one to be drawn to the best, or the worst.
 fn far(n: usize, at: usize, what: u64) -> usize
-    ensures { result ≡ farOf n at what }
+    ensures { result ≡ far_of n at what }
 {
     if what == SHRINKING {
         return at;
@@ -195,7 +195,7 @@ fn far(n: usize, at: usize, what: u64) -> usize
 // A trial's coefficient.
 fn coefficient(o: SimplexOptions, n: usize, what: u64) -> f64
     requires { n ≤ 16 }
-    ensures { result ≡ coefficientOf o n what }
+    ensures { result ≡ coefficient_of o n what }
 {
     if what == EXPANDING {
         return ALPHA * neldermead_vertices::expansion(o, n);
@@ -220,7 +220,7 @@ fn next_point(
 ) -> [f64; 16]
     requires n_bound { n ≤ 16 }
     requires i_bound { what ≡ building → i < 16 }
-    ensures { result ≡ nextPointOf o n i what x c best old }
+    ensures { result ≡ next_point_of o n i what x c best old }
 {
     let b = best.x;
     let w = old.x;
@@ -238,7 +238,7 @@ fn next_point(
 
 // The next phase, where no round ends.
 fn next_phase(phase: u64, what: u64) -> u64
-    ensures { result ≡ nextPhaseOf phase what }
+    ensures { result ≡ next_phase_of phase what }
 {
     if what == RESTS {
         return phase;
@@ -248,7 +248,7 @@ fn next_phase(phase: u64, what: u64) -> u64
 
 // Why a run stops whose least value is f.
 fn reason(ftol: f64, f: f64) -> u64
-    ensures { result ≡ reasonOf ftol f }
+    ensures { result ≡ reason_of ftol f }
 {
     if ftol < neldermead_vertices::floor(float::abs(f)) {
         return BY_RESOLUTION;
@@ -259,7 +259,7 @@ fn reason(ftol: f64, f: f64) -> u64
 // The phase after the tests at the head of a round: size and spread, where a run that is done may be followed
 // by another; then max_iter, then max_fevals.
 fn verdict(fit: Fixed, done: bool, f: f64, rounds: u64, runs: u64, fevals: u64) -> u64
-    ensures { result ≡ verdictOf fit done f rounds runs fevals }
+    ensures { result ≡ verdict_of fit done f rounds runs fevals }
 {
     let o = fit.options;
     if done {
@@ -281,7 +281,7 @@ fn verdict(fit: Fixed, done: bool, f: f64, rounds: u64, runs: u64, fevals: u64) 
 // tests. A new simplex is built about the best point; a round begins with the reflected point.
 fn headed(fit: Fixed, s: Simplex, fevals: u64) -> Simplex
     requires { fit.n ≤ 16 }
-    ensures { result ≡ headedOf fit s fevals }
+    ensures { result ≡ headed_of fit s fevals }
 {
     let n = fit.n;
     let mut q = s;
@@ -322,7 +322,7 @@ pub fn told(fit: Fixed, s: Simplex, f: f64, fevals: u64) -> Simplex
     requires n_nonzero { 0 < fit.n }
     requires n_bound { fit.n ≤ 16 }
     requires at_le_n { s.at ≤ fit.n }
-    ensures { result ≡ toldOf fit s f fevals }
+    ensures { result ≡ told_of fit s f fevals }
 {
     let n = fit.n;
     let m = n - 1;
@@ -360,7 +360,7 @@ pub fn told(fit: Fixed, s: Simplex, f: f64, fevals: u64) -> Simplex
 
 // The start at x: the first vertex of the first simplex is asked for.
 pub fn start(x: [f64; 16]) -> Simplex
-    ensures { result ≡ startOf x }
+    ensures { result ≡ start_of x }
 {
     let zero = [0.0; 16];
     let best = Vertex { x, f: 1.0 / 0.0 };

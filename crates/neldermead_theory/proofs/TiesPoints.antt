@@ -9,166 +9,166 @@ use mathlib.Core.List.{List, [], ◌∷◌, ◌++◌, map, foldl, foldl-append}
 use lib.ListN.{length, get_or, set, replicate, length-map, length-append, get_or-replicate}
 use lib.Seq.{append_snoc, set-append_seam, ext_get_or}
 use lib.Ieee.{Float, nan, lt, le}
-use Rattle.float.specs.Binary64.{◌⊖◌, plusZero}
-use Rattle.float.specs.Values.{absOf, finiteOf, maxOf}
-use Rattle.float.proofs.Tests.{cond-and}
+use Rattle.float.specs.Binary64.{◌⊖◌, plus_zero}
+use Rattle.float.specs.Values.{abs_of, finite_of, max_of}
+use Rattle.float.proofs.Tests.{cond_and}
 use Rattle.vector.specs.Loops.{at}
-use Rattle.vector.specs.Points.{towardsOf, shrunkOf, infNormOf, differenceOf}
-use Rattle.vector.specs.Lists.{first, addition, quotient, difference, infNorm, shrunk, towards as between}
-use Rattle.vector.proofs.First.{point-laws, ties}
-use Rattle.vector.proofs.Stores.{first-set}
+use Rattle.vector.specs.Points.{towards_of, shrunk_of, inf_norm_of, difference_of}
+use Rattle.vector.specs.Lists.{first, addition, quotient, difference, inf_norm, shrunk, towards as between}
+use Rattle.vector.proofs.First.{point_laws, ties}
+use Rattle.vector.proofs.Stores.{first_set}
 use Rattle.protocol.specs.declared.SimplexOptions.{SimplexOptions}
 use Rattle.protocol.specs.declared.Termination.TheVariants.{SimplexTolerance, ObjectiveResolution}
 use Rattle.neldermead_vertices.specs.declared.Vertex.{Vertex}
 use Rattle.neldermead_vertices.specs.Method.{displaced, resolution, delta, real}
-use Rattle.neldermead_theory.specs.Algorithm.{SimplexPosition, vertex, butLast, others, anyFinite, corners, centroid, towards, size, converged, reason}
+use Rattle.neldermead_theory.specs.Algorithm.{SimplexPosition, vertex, but_last, others, any_finite, corners, centroid, towards, size, converged, reason}
 use Rattle.neldermead_theory.specs.Phases.{drawn}
-use Rattle.neldermead_vertices.specs.Vertices.{vertexAt, summedOf, centroidOf, cornerOf, sizeOf, anyFiniteOf, flatOf, convergedOf}
-use Rattle.neldermead_theory.specs.Ties.{lowered, loweredTo, Reads}
-use Rattle.neldermead_theory.proofs.CountsLengths.{corners-many as corners-length, others-length}
-use Rattle.neldermead_theory.proofs.TiesOrder.{getD-map, many, vertex-at, one-more, butlast-of}
+use Rattle.neldermead_vertices.specs.Vertices.{vertex_at, summed_of, centroid_of, corner_of, size_of, any_finite_of, flat_of, converged_of}
+use Rattle.neldermead_theory.specs.Ties.{lowered, lowered_to, Reads}
+use Rattle.neldermead_theory.proofs.CountsLengths.{corners_many as corners-length, others_length}
+use Rattle.neldermead_theory.proofs.TiesOrder.{get_d_map, many, vertex_at_lem, one_more, butlast_of}
 
 -- ---- the points of a new simplex
 
 -- the i-th of those after `front` is the whole with one coordinate displaced
-corner-in : (initial : Float) (front xs d : List Float) (i : ℕ) → i < length xs
+corner_in : (initial : Float) (front xs d : List Float) (i : ℕ) → i < length xs
     → get_or (corners initial front xs) i d ≡ set (front ++ xs) (length front + i) (displaced initial (at xs i))
 unfolding corners
-corner-in initial front [] d i h = absurd (omega arith)
-corner-in initial front (x ∷ xs) d zero h = rw add-zero (sym (set-append_seam front x xs (displaced initial x)))
-corner-in initial front (x ∷ xs) d (suc i) h =
+corner_in initial front [] d i h = absurd (omega arith)
+corner_in initial front (x ∷ xs) d zero h = rw add-zero (sym (set-append_seam front x xs (displaced initial x)))
+corner_in initial front (x ∷ xs) d (suc i) h =
     let place : length (front ++ (x ∷ [])) + i ≡ length front + suc i = simp length-append (omega arith) in
-    corner-in initial (front ++ (x ∷ [])) xs d i (omega arith) ∙ rw (append_snoc front x xs, place)
+    corner_in initial (front ++ (x ∷ [])) xs d i (omega arith) ∙ rw (append_snoc front x xs, place)
 
-pub corners-many : (n : ℕ) (initial : Float) (x : List Float) → length (corners initial [] (first n x)) ≡ n
-corners-many n initial x = corners-length initial [] (first n x) ∙ point-laws.listed n x
+pub corners_many : (n : ℕ) (initial : Float) (x : List Float) → length (corners initial [] (first n x)) ≡ n
+corners_many n initial x = corners-length initial [] (first n x) ∙ point_laws.listed n x
 
-pub corner-at : (n : ℕ) → n ≤ 16 → (initial : Float) (x : List Float) → length x ≡ 16 → (d : List Float) (i : ℕ) → i < n
-    → get_or (corners initial [] (first n x)) i d ≡ first n (cornerOf initial x i)
-unfolding cornerOf
-corner-at n small initial x long d i h =
+pub corner_at : (n : ℕ) → n ≤ 16 → (initial : Float) (x : List Float) → length x ≡ 16 → (d : List Float) (i : ℕ) → i < n
+    → get_or (corners initial [] (first n x)) i d ≡ first n (corner_of initial x i)
+unfolding corner_of
+corner_at n small initial x long d i h =
     let l : i < length x = omega arith in
-    corner-in initial [] (first n x) d i (rw (point-laws.listed n x) h) ∙ rw (zero-add i, point-laws.read n x i, first-set n x i)
+    corner_in initial [] (first n x) d i (rw (point_laws.listed n x) h) ∙ rw (zero-add i, point_laws.read n x i, first_set n x i)
 
 -- ---- lists that grow at the end
 
-or-more : (us : List Vertex) (u : Vertex) → anyFinite (us ++ (u ∷ [])) ≡ anyFinite us || finiteOf u.f
-or-more [] u = go (finiteOf u.f)
+or_more : (us : List Vertex) (u : Vertex) → any_finite (us ++ (u ∷ [])) ≡ any_finite us || finite_of u.f
+or_more [] u = go (finite_of u.f)
   where
     go : (b : Bool) → b || false ≡ b
     go true = refl
     go false = refl
-or-more (w ∷ ws) u = ap (λ (b : Bool). finiteOf w.f || b) (or-more ws u) ∙ sym (or_assoc (finiteOf w.f) (anyFinite ws) (finiteOf u.f))
+or_more (w ∷ ws) u = ap (λ (b : Bool). finite_of w.f || b) (or_more ws u) ∙ sym (or_assoc (finite_of w.f) (any_finite ws) (finite_of u.f))
 
-others-more : (us : List Vertex) (u : Vertex) → 0 < length us → others (us ++ (u ∷ [])) ≡ others us ++ (u ∷ [])
-others-more [] u h = absurd (omega arith)
-others-more (w ∷ ws) u h = refl
+others_more : (us : List Vertex) (u : Vertex) → 0 < length us → others (us ++ (u ∷ [])) ≡ others us ++ (u ∷ [])
+others_more [] u h = absurd (omega arith)
+others_more (w ∷ ws) u h = refl
 
-pub others-at : (us : List Vertex) (i : ℕ) (d : Vertex) → get_or (others us) i d ≡ get_or us (suc i) d
-others-at [] i d = refl
-others-at (u ∷ us) i d = refl
+pub others_at : (us : List Vertex) (i : ℕ) (d : Vertex) → get_or (others us) i d ≡ get_or us (suc i) d
+others_at [] i d = refl
+others_at (u ∷ us) i d = refl
 
 -- the sum's start
-zeros-first : (n : ℕ) → n ≤ 16 → (x : List Float) → first n (replicate 16 plusZero) ≡ map (λ v. plusZero) (first n x)
-zeros-first n small x =
-    ext_get_or nan (first n (replicate 16 plusZero)) (map (λ v. plusZero) (first n x)) (listed (replicate 16 plusZero) ∙ sym (length-map (first n x) (λ v. plusZero) ∙ listed x))
-    (λ k j. each k (rw (listed (replicate 16 plusZero)) at j))
+zeros_first : (n : ℕ) → n ≤ 16 → (x : List Float) → first n (replicate 16 plus_zero) ≡ map (λ v. plus_zero) (first n x)
+zeros_first n small x =
+    ext_get_or nan (first n (replicate 16 plus_zero)) (map (λ v. plus_zero) (first n x)) (listed (replicate 16 plus_zero) ∙ sym (length-map (first n x) (λ v. plus_zero) ∙ listed x))
+    (λ k j. each k (rw (listed (replicate 16 plus_zero)) at j))
   where
     listed : (y : List Float) → length (first n y) ≡ n
-    listed y = point-laws.listed n y
+    listed y = point_laws.listed n y
 
-    each : (k : ℕ) → k < n → at (first n (replicate 16 plusZero)) k ≡ at (map (λ v. plusZero) (first n x)) k
+    each : (k : ℕ) → k < n → at (first n (replicate 16 plus_zero)) k ≡ at (map (λ v. plus_zero) (first n x)) k
     each k h =
-        point-laws.read n (replicate 16 plusZero) k h
-        ∙ get_or-replicate 16 k plusZero nan (omega arith)
-        ∙ sym (getD-map (λ v. plusZero) (first n x) k nan nan (rw (listed x) h))
+        point_laws.read n (replicate 16 plus_zero) k h
+        ∙ get_or-replicate 16 k plus_zero nan (omega arith)
+        ∙ sym (get_d_map (λ v. plus_zero) (first n x) k nan nan (rw (listed x) h))
 
 -- ---- seventeen vertices
 module _ (n : ℕ) (v : List Vertex) (small : n ≤ 16) (long : length v ≡ 17) where
-  pub any-finite : (k : ℕ) → k ≤ 17 → anyFiniteOf v k ≡ anyFinite (loweredTo n k v)
-  unfolding anyFiniteOf
-  any-finite zero h = refl
-  any-finite (suc k) h =
-      ap (λ (b : Bool). b || finiteOf (vertexAt v k).f) (any-finite k (omega arith))
-      ∙ sym (ap anyFinite (one-more n v small long k h) ∙ or-more (loweredTo n k v) (lowered n (vertexAt v k)))
+  pub any_finite_lem : (k : ℕ) → k ≤ 17 → any_finite_of v k ≡ any_finite (lowered_to n k v)
+  unfolding any_finite_of
+  any_finite_lem zero h = refl
+  any_finite_lem (suc k) h =
+      ap (λ (b : Bool). b || finite_of (vertex_at v k).f) (any_finite_lem k (omega arith))
+      ∙ sym (ap any_finite (one_more n v small long k h) ∙ or_more (lowered_to n k v) (lowered n (vertex_at v k)))
 
-  summed-of : (c : List Float) → first n (replicate 16 plusZero) ≡ c → (k : ℕ) → k ≤ 17 → first n (summedOf v n k) ≡ foldl (λ c u. addition c u.x) c (loweredTo n k v)
-  unfolding summedOf
-  summed-of c e zero h = e
-  summed-of c e (suc k) h =
-      ties.addition-of (summedOf v n k) (vertexAt v k).x n
-      ∙ ap (λ s. addition s (first n (vertexAt v k).x)) (summed-of c e k (omega arith))
-      ∙ sym (ap (foldl (λ c u. addition c u.x) c) (one-more n v small long k h) ∙ foldl-append (λ c u. addition c u.x) c (loweredTo n k v) (lowered n (vertexAt v k) ∷ []))
+  summed_of_lem : (c : List Float) → first n (replicate 16 plus_zero) ≡ c → (k : ℕ) → k ≤ 17 → first n (summed_of v n k) ≡ foldl (λ c u. addition c u.x) c (lowered_to n k v)
+  unfolding summed_of
+  summed_of_lem c e zero h = e
+  summed_of_lem c e (suc k) h =
+      ties.addition_of_lem (summed_of v n k) (vertex_at v k).x n
+      ∙ ap (λ s. addition s (first n (vertex_at v k).x)) (summed_of_lem c e k (omega arith))
+      ∙ sym (ap (foldl (λ c u. addition c u.x) c) (one_more n v small long k h) ∙ foldl-append (λ c u. addition c u.x) c (lowered_to n k v) (lowered n (vertex_at v k) ∷ []))
 
   -- the distance of a vertex from the best, whose point is b
   abbrev farthest : List Float → Float → Vertex → Float
-  farthest b m u = maxOf m (infNorm (difference u.x b))
+  farthest b m u = max_of m (inf_norm (difference u.x b))
 
-  size-to : (k : ℕ) → k < 17 → sizeOf v n k ≡ foldl (farthest (first n (vertexAt v 0).x)) plusZero (others (loweredTo n (suc k) v))
-  unfolding sizeOf
-  size-to zero h = sym (ap (λ us. foldl (farthest (first n (vertexAt v 0).x)) plusZero (others us)) (one-more n v small long 0 h))
-  size-to (suc k) h =
-      let b = (vertexAt v 0).x in
+  size_to : (k : ℕ) → k < 17 → size_of v n k ≡ foldl (farthest (first n (vertex_at v 0).x)) plus_zero (others (lowered_to n (suc k) v))
+  unfolding size_of
+  size_to zero h = sym (ap (λ us. foldl (farthest (first n (vertex_at v 0).x)) plus_zero (others us)) (one_more n v small long 0 h))
+  size_to (suc k) h =
+      let b = (vertex_at v 0).x in
       let f = farthest (first n b) in
-      let u = vertexAt v (suc k) in
-      let next : infNormOf (differenceOf (vertexAt v (k + 1)).x b n) n ≡ infNorm (difference (first n u.x) (first n b)) =
-      rw (add-one k) (ties.inf-norm (differenceOf u.x b n) n ∙ ap infNorm (ties.difference-of u.x b n)) in
-      let some : 0 < length (loweredTo n (suc k) v) = omega (arith, many n v small long (suc k) (omega arith)) in
-      ap₂ (λ m d. maxOf m d) (size-to k (omega arith)) next
-      ∙ sym (ap (λ us. foldl f plusZero (others us)) (one-more n v small long (suc k) h)
-      ∙ ap (foldl f plusZero) (others-more (loweredTo n (suc k) v) (lowered n u) some)
-      ∙ foldl-append f plusZero (others (loweredTo n (suc k) v)) (lowered n u ∷ []))
+      let u = vertex_at v (suc k) in
+      let next : inf_norm_of (difference_of (vertex_at v (k + 1)).x b n) n ≡ inf_norm (difference (first n u.x) (first n b)) =
+      rw (add-one k) (ties.inf_norm_lem (difference_of u.x b n) n ∙ ap inf_norm (ties.difference_of_lem u.x b n)) in
+      let some : 0 < length (lowered_to n (suc k) v) = omega (arith, many n v small long (suc k) (omega arith)) in
+      ap₂ (λ m d. max_of m d) (size_to k (omega arith)) next
+      ∙ sym (ap (λ us. foldl f plus_zero (others us)) (one_more n v small long (suc k) h)
+      ∙ ap (foldl f plus_zero) (others_more (lowered_to n (suc k) v) (lowered n u) some)
+      ∙ foldl-append f plus_zero (others (lowered_to n (suc k) v)) (lowered n u ∷ []))
 
   -- ---- a position that reads them
   module _ (o : SimplexOptions) (p : SimplexPosition) (r : Reads o n v p) where
-    pub vertex-of : (i : ℕ) → i ≤ n → vertex p i ≡ lowered n (vertexAt v i)
-    vertex-of i h = rw r.vertices (vertex-at n v small long p.best i h)
+    pub vertex_of_lem : (i : ℕ) → i ≤ n → vertex p i ≡ lowered n (vertex_at v i)
+    vertex_of_lem i h = rw r.vertices (vertex_at_lem n v small long p.best i h)
 
-    point-of : (i : ℕ) → i ≤ n → (vertex p i).x ≡ first n (vertexAt v i).x
-    point-of i h = ap (λ u. u.x) (vertex-of i h)
+    point_of_lem : (i : ℕ) → i ≤ n → (vertex p i).x ≡ first n (vertex_at v i).x
+    point_of_lem i h = ap (λ u. u.x) (vertex_of_lem i h)
 
-    value-of : (i : ℕ) → i ≤ n → (vertex p i).f ≡ (vertexAt v i).f
-    value-of i h = ap (λ u. u.f) (vertex-of i h)
+    value_of_lem : (i : ℕ) → i ≤ n → (vertex p i).f ≡ (vertex_at v i).f
+    value_of_lem i h = ap (λ u. u.f) (vertex_of_lem i h)
 
-    pub centroid-of : first n (centroidOf v n) ≡ centroid p
-    unfolding centroidOf centroid
-    centroid-of =
-        let zeros = map (λ v. plusZero) (vertex p 0).x in
-        let start : first n (replicate 16 plusZero) ≡ zeros = zeros-first n small (vertexAt v 0).x ∙ ap (map (λ v. plusZero)) (sym (point-of 0 zero-le)) in
-        let all : butLast p.vertices ≡ loweredTo n n v = ap butLast r.vertices ∙ butlast-of n v small long in
-        ties.quotient-of (summedOf v n n) (real n) n
-        ∙ ap₂ (λ c (m : ℕ). quotient c (real m)) (summed-of zeros start n (omega arith) ∙ ap (foldl (λ c u. addition c u.x) zeros) (sym all)) (sym r.count)
+    pub centroid_of_lem : first n (centroid_of v n) ≡ centroid p
+    unfolding centroid_of centroid
+    centroid_of_lem =
+        let zeros = map (λ v. plus_zero) (vertex p 0).x in
+        let start : first n (replicate 16 plus_zero) ≡ zeros = zeros_first n small (vertex_at v 0).x ∙ ap (map (λ v. plus_zero)) (sym (point_of_lem 0 zero-le)) in
+        let all : but_last p.vertices ≡ lowered_to n n v = ap but_last r.vertices ∙ butlast_of n v small long in
+        ties.quotient_of_lem (summed_of v n n) (real n) n
+        ∙ ap₂ (λ c (m : ℕ). quotient c (real m)) (summed_of_lem zeros start n (omega arith) ∙ ap (foldl (λ c u. addition c u.x) zeros) (sym all)) (sym r.count)
 
-    pub towards-of : (t : Float) → first n (towardsOf (centroidOf v n) (vertexAt v n).x t n) ≡ towards p t
-    towards-of t =
-        ties.towards-of (centroidOf v n) (vertexAt v n).x t n
-        ∙ ap₂ (λ c w. between c w t) centroid-of (sym (ap (λ (m : ℕ). (vertex p m).x) r.count ∙ point-of n (omega arith)))
+    pub towards_of_lem : (t : Float) → first n (towards_of (centroid_of v n) (vertex_at v n).x t n) ≡ towards p t
+    towards_of_lem t =
+        ties.towards_of_lem (centroid_of v n) (vertex_at v n).x t n
+        ∙ ap₂ (λ c w. between c w t) centroid_of_lem (sym (ap (λ (m : ℕ). (vertex p m).x) r.count ∙ point_of_lem n (omega arith)))
 
-    pub size-of : sizeOf v n n ≡ size p
+    pub size_of_lem : size_of v n n ≡ size p
     unfolding size
-    size-of =
-        size-to n (omega arith)
-        ∙ ap₂ (λ b us. foldl (farthest b) plusZero (others us)) (sym (point-of 0 zero-le)) (sym r.vertices)
+    size_of_lem =
+        size_to n (omega arith)
+        ∙ ap₂ (λ b us. foldl (farthest b) plus_zero (others us)) (sym (point_of_lem 0 zero-le)) (sym r.vertices)
 
-    pub converged-of : convergedOf o v n ≡ converged p
-    unfolding convergedOf flatOf converged
-    converged-of =
-        rw (← size-of, r.options, r.count, value-of n (omega arith), value-of 0 zero-le, point-of 0 zero-le, ties.inf-norm (vertexAt v 0).x n)
-        (cond-and (le (sizeOf v n n) (maxOf o.xtol (resolution (infNorm (first n (vertexAt v 0).x)))))
-        (le (absOf ((vertexAt v n).f ⊖ (vertexAt v 0).f)) (maxOf o.ftol (resolution (absOf (vertexAt v 0).f)))))
+    pub converged_of_lem : converged_of o v n ≡ converged p
+    unfolding converged_of flat_of converged
+    converged_of_lem =
+        rw (← size_of_lem, r.options, r.count, value_of_lem n (omega arith), value_of_lem 0 zero-le, point_of_lem 0 zero-le, ties.inf_norm_lem (vertex_at v 0).x n)
+        (cond_and (le (size_of v n n) (max_of o.xtol (resolution (inf_norm (first n (vertex_at v 0).x)))))
+        (le (abs_of ((vertex_at v n).f ⊖ (vertex_at v 0).f)) (max_of o.ftol (resolution (abs_of (vertex_at v 0).f)))))
 
-    pub reason-of : cond (lt o.ftol (resolution (absOf (vertexAt v 0).f))) ObjectiveResolution SimplexTolerance ≡ reason p
+    pub reason_of_lem : cond (lt o.ftol (resolution (abs_of (vertex_at v 0).f))) ObjectiveResolution SimplexTolerance ≡ reason p
     unfolding reason
-    reason-of = rw (r.options, value-of 0 zero-le)
+    reason_of_lem = rw (r.options, value_of_lem 0 zero-le)
 
-    some-others : length (others p.vertices) ≡ n
-    some-others = others-length p.vertices n (ap length r.vertices ∙ many n v small long (suc n) (omega arith))
+    some_others : length (others p.vertices) ≡ n
+    some_others = others_length p.vertices n (ap length r.vertices ∙ many n v small long (suc n) (omega arith))
 
-    pub drawn-many : length (drawn p) ≡ n
-    drawn-many = length-map (others p.vertices) _ ∙ some-others
+    pub drawn_many : length (drawn p) ≡ n
+    drawn_many = length-map (others p.vertices) _ ∙ some_others
 
-    pub drawn-at : (d : List Float) (i : ℕ) → i < n → get_or (drawn p) i d ≡ first n (shrunkOf (vertexAt v 0).x (vertexAt v (suc i)).x (delta o n) n)
-    drawn-at d i h =
-        let other : get_or (others p.vertices) i p.best ≡ lowered n (vertexAt v (suc i)) = others-at p.vertices i p.best ∙ vertex-of (suc i) h in
-        getD-map (λ u. shrunk (vertex p 0).x u.x (delta p.options p.n)) (others p.vertices) i p.best d (rw some-others h)
-        ∙ rw (other, point-of 0 zero-le, r.options, r.count) (sym (ties.shrunk-of (vertexAt v 0).x (vertexAt v (suc i)).x (delta o n) n))
+    pub drawn_at : (d : List Float) (i : ℕ) → i < n → get_or (drawn p) i d ≡ first n (shrunk_of (vertex_at v 0).x (vertex_at v (suc i)).x (delta o n) n)
+    drawn_at d i h =
+        let other : get_or (others p.vertices) i p.best ≡ lowered n (vertex_at v (suc i)) = others_at p.vertices i p.best ∙ vertex_of_lem (suc i) h in
+        get_d_map (λ u. shrunk (vertex p 0).x u.x (delta p.options p.n)) (others p.vertices) i p.best d (rw some_others h)
+        ∙ rw (other, point_of_lem 0 zero-le, r.options, r.count) (sym (ties.shrunk_of_lem (vertex_at v 0).x (vertex_at v (suc i)).x (delta o n) n))

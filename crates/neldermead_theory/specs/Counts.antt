@@ -5,29 +5,29 @@ use Rattle.protocol.specs.declared.SimplexOptions.{SimplexOptions}
 use Rattle.protocol.specs.declared.GradientOptions.{GradientOptions}
 use Rattle.protocol.specs.Protocol.{Answer, simplex, Fit}
 use Rattle.protocol.specs.Dialogue.{run}
-use Rattle.protocol.specs.Claim.{limit, iterAllowance, fevalsAllowance}
+use Rattle.protocol.specs.Claim.{limit, iter_allowance, fevals_allowance}
 use Rattle.protocol.specs.Rounds.{Rounds, FitLimits, engine}
 use Rattle.protocol.specs.Bounds.{BoundLaws}
 use Rattle.protocol.specs.Fits.{fits}
-use Rattle.neldermead_theory.specs.Algorithm.{nelderMead}
+use Rattle.neldermead_theory.specs.Algorithm.{nelder_mead}
 
 -- M+(R+1)(n+1)
-abbrev pub byFevals : ℕ → SimplexOptions → List Float → ℕ
-byFevals M o x = M + suc o.restarts * suc (length x)
+abbrev pub by_fevals : ℕ → SimplexOptions → List Float → ℕ
+by_fevals M o x = M + suc o.restarts * suc (length x)
 
 -- (R+1)(n+1)+I(n+2)
-abbrev pub byIterations : ℕ → SimplexOptions → List Float → ℕ
-byIterations I o x = suc o.restarts * suc (length x) + I * suc (suc (length x))
+abbrev pub by_iterations : ℕ → SimplexOptions → List Float → ℕ
+by_iterations I o x = suc o.restarts * suc (length x) + I * suc (suc (length x))
 
 -- the laws of both bounds, and that no gradient is asked for
 pub record SimplexBounds : Type 1 where
-  pub by-fevals : (o : SimplexOptions) (x : List Float) (l : FitLimits) (M : ℕ) → l.fevals ≡ limit M → BoundLaws nelderMead Value (byFevals M o x) l o x
-  pub by-iterations : (o : SimplexOptions) (x : List Float) (l : FitLimits) (I : ℕ) → l.iter ≡ limit I → BoundLaws nelderMead Value (byIterations I o x) l o x
-  pub no-gradients : (o : SimplexOptions) (x : List Float) (l : FitLimits) → BoundLaws nelderMead Gradient 0 l o x
+  pub by_fevals_lem : (o : SimplexOptions) (x : List Float) (l : FitLimits) (M : ℕ) → l.fevals ≡ limit M → BoundLaws nelder_mead Value (by_fevals M o x) l o x
+  pub by_iterations_lem : (o : SimplexOptions) (x : List Float) (l : FitLimits) (I : ℕ) → l.iter ≡ limit I → BoundLaws nelder_mead Value (by_iterations I o x) l o x
+  pub no_gradients : (o : SimplexOptions) (x : List Float) (l : FitLimits) → BoundLaws nelder_mead Gradient 0 l o x
 
 -- both bounds on all the questions that a simplex fit puts, whatever is answered, and whatever the other fits of the engine are
 pub record SimplexCounts (B : Rounds (Bool × GradientOptions)) : Type 0 where
-  pub by-fevals : (f : Fit) (o : SimplexOptions) (M : ℕ) → f.job ≡ simplex o → fevalsAllowance f ≡ limit M
-      → (l : List Answer) → length (run (engine (fits nelderMead B)) f l).questions ≤ byFevals M o f.x0
-  pub by-iterations : (f : Fit) (o : SimplexOptions) (I : ℕ) → f.job ≡ simplex o → iterAllowance f ≡ limit I
-      → (l : List Answer) → length (run (engine (fits nelderMead B)) f l).questions ≤ byIterations I o f.x0
+  pub by_fevals_lem : (f : Fit) (o : SimplexOptions) (M : ℕ) → f.job ≡ simplex o → fevals_allowance f ≡ limit M
+      → (l : List Answer) → length (run (engine (fits nelder_mead B)) f l).questions ≤ by_fevals M o f.x0
+  pub by_iterations_lem : (f : Fit) (o : SimplexOptions) (I : ℕ) → f.job ≡ simplex o → iter_allowance f ≡ limit I
+      → (l : List Answer) → length (run (engine (fits nelder_mead B)) f l).questions ≤ by_iterations I o f.x0

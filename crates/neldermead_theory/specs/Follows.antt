@@ -7,19 +7,19 @@ use Rattle.vector.specs.Ties.{ZeroFrom}
 use Rattle.protocol.specs.declared.GradientOptions.{GradientOptions}
 use Rattle.protocol.specs.declared.Termination.{Termination}
 use Rattle.protocol.specs.declared.Termination.TheVariants.{GradientTolerance, SimplexTolerance, StepTolerance, FunctionTolerance, MaxIterations, MaxFevals, LineSearchFailed, GradientFailed, ObjectiveResolution}
-use Rattle.protocol.specs.Protocol.{readOf}
+use Rattle.protocol.specs.Protocol.{read_of}
 use Rattle.protocol.specs.Claim.{limit}
-use Rattle.protocol.specs.Rounds.{atHead, stops, fails, Verdict, goOn, stop, restart, Rounds, FitLimits, reached}
+use Rattle.protocol.specs.Rounds.{at_head, stops, fails, Verdict, go_on, stop, restart, Rounds, FitLimits, reached}
 use Rattle.protocol.specs.Fits.{fits}
-use Rattle.protocol.specs.Places.{still, ends, Steps, settleTurn, mapTurn, fitsSteps}
+use Rattle.protocol.specs.Places.{still, ends, Steps, settle_turn, map_turn, fits_steps}
 use Rattle.neldermead_vertices.specs.declared.Vertex.{Vertex}
 use Rattle.neldermead.specs.declared.Fixed.{Fixed}
 use Rattle.neldermead.specs.declared.Simplex.{Simplex}
-use Rattle.neldermead_theory.specs.Algorithm.{SimplexPosition, vertex, centroid, corners, tests, nowhere, nelderMead}
-use Rattle.neldermead_theory.specs.Phases.{Phase, building, reflecting, expanding, outside, inside, shrinking, pointOf, Move, drawn, stepOf, buildAt, simplexSteps}
-use Rattle.neldermead_vertices.specs.Vertices.{vertexAt}
-use Rattle.neldermead.specs.Step.{building as buildingMark, reflecting as reflectingMark, expanding as expandingMark, contractingOutside, contractingInside, shrinking as shrinkingMark, byTolerance, byResolution, bySimplexIterations, bySimplexFevals, notFinite, toldOf, startOf}
-use Rattle.neldermead_theory.specs.Ties.{lowered, loweredTo}
+use Rattle.neldermead_theory.specs.Algorithm.{SimplexPosition, vertex, centroid, corners, tests, nowhere, nelder_mead}
+use Rattle.neldermead_theory.specs.Phases.{Phase, building, reflecting, expanding, outside, inside, shrinking, point_of, Move, drawn, step_of, build_at, simplex_steps}
+use Rattle.neldermead_vertices.specs.Vertices.{vertex_at}
+use Rattle.neldermead.specs.Step.{building as buildingMark, reflecting as reflectingMark, expanding as expandingMark, contracting_outside, contracting_inside, shrinking as shrinkingMark, by_tolerance, by_resolution, by_simplex_iterations, by_simplex_fevals, not_finite, told_of, start_of}
+use Rattle.neldermead_theory.specs.Ties.{lowered, lowered_to}
 
 -- ---- what holds of the arrays
 
@@ -29,7 +29,7 @@ pub record EveryPoint (P : List Float → Type 0) (s : Simplex) : Type 0 where
   pub best : P s.best.x
   pub cen : P s.cen
   pub refl : P s.refl.x
-  pub vertices : (i : ℕ) → i < 17 → P (vertexAt s.v i).x
+  pub vertices : (i : ℕ) → i < 17 → P (vertex_at s.v i).x
 
 -- from 1 to 16 unknowns, seventeen vertices, sixteen coordinates of each point, and the vertex that is asked for is one of the simplex
 pub record SimplexShaped (n : ℕ) (s : Simplex) : Type 0 where
@@ -42,26 +42,26 @@ pub record SimplexShaped (n : ℕ) (s : Simplex) : Type 0 where
 -- ---- what ties the record to a phase
 
 -- the mark of a phase
-abbrev pub markOf : Phase → ℕ
-markOf (building p us x xs) = buildingMark
-markOf (reflecting p) = reflectingMark
-markOf (expanding p r) = expandingMark
-markOf (outside p r) = contractingOutside
-markOf (inside p) = contractingInside
-markOf (shrinking p us x xs) = shrinkingMark
+abbrev pub mark_of : Phase → ℕ
+mark_of (building p us x xs) = buildingMark
+mark_of (reflecting p) = reflectingMark
+mark_of (expanding p r) = expandingMark
+mark_of (outside p r) = contracting_outside
+mark_of (inside p) = contracting_inside
+mark_of (shrinking p us x xs) = shrinkingMark
 
 -- the position of a phase
-abbrev pub positionOf : Phase → SimplexPosition
-positionOf (building p us x xs) = p
-positionOf (reflecting p) = p
-positionOf (expanding p r) = p
-positionOf (outside p r) = p
-positionOf (inside p) = p
-positionOf (shrinking p us x xs) = p
+abbrev pub position_of : Phase → SimplexPosition
+position_of (building p us x xs) = p
+position_of (reflecting p) = p
+position_of (expanding p r) = p
+position_of (outside p r) = p
+position_of (inside p) = p
+position_of (shrinking p us x xs) = p
 
 -- the point about which a simplex is built: the first vertex, or the open point until that is told
-abbrev pub seedOf : Simplex → List Float
-seedOf s = cond (eqb s.at 0) s.x (vertexAt s.v 0).x
+abbrev pub seed_of : Simplex → List Float
+seed_of s = cond (eqb s.at 0) s.x (vertex_at s.v 0).x
 
 module _ (fit : Fixed) (s : Simplex) where
   -- options, count of unknowns, iterations, runs and best vertex of p are those of the fit and its record
@@ -74,12 +74,12 @@ module _ (fit : Fixed) (s : Simplex) where
 
   -- us are the vertices told, and xs the corners of the seed that are still to come
   pub record InBuild (us : List Vertex) (xs : List (List Float)) : Type 0 where
-    pub told : us ≡ loweredTo fit.n s.at s.v
-    pub left : xs ≡ drop s.at (corners fit.options.step [] (first fit.n (seedOf s)))
+    pub told : us ≡ lowered_to fit.n s.at s.v
+    pub left : xs ≡ drop s.at (corners fit.options.step [] (first fit.n (seed_of s)))
 
   -- the simplex and its centroid are those of p
   pub record InRound (p : SimplexPosition) : Type 0 where
-    pub vertices : p.vertices ≡ loweredTo fit.n (suc fit.n) s.v
+    pub vertices : p.vertices ≡ lowered_to fit.n (suc fit.n) s.v
     pub middle : first fit.n s.cen ≡ centroid p
 
   -- and the reflected point is r
@@ -91,9 +91,9 @@ module _ (fit : Fixed) (s : Simplex) where
   pub record InShrink (p : SimplexPosition) (us : List Vertex) (xs : List (List Float)) : Type 0 where
     pub some : 1 ≤ s.at
     pub many : length p.vertices ≡ suc fit.n
-    pub least : vertex p 0 ≡ lowered fit.n (vertexAt s.v 0)
-    pub told : vertex p 0 ∷ us ≡ loweredTo fit.n s.at s.v
-    pub old : (i : ℕ) → s.at ≤ i → i ≤ fit.n → vertex p i ≡ lowered fit.n (vertexAt s.v i)
+    pub least : vertex p 0 ≡ lowered fit.n (vertex_at s.v 0)
+    pub told : vertex p 0 ∷ us ≡ lowered_to fit.n s.at s.v
+    pub old : (i : ℕ) → s.at ≤ i → i ≤ fit.n → vertex p i ≡ lowered fit.n (vertex_at s.v i)
     pub left : xs ≡ drop s.at (drawn p)
 
   -- what a phase holds beside its position and its point
@@ -107,17 +107,17 @@ module _ (fit : Fixed) (s : Simplex) where
 
   -- the record is at the phase
   pub record Related (ph : Phase) : Type 0 where
-    pub mark : s.phase ≡ markOf ph
-    pub point : first fit.n s.x ≡ pointOf ph
-    pub position : AtPosition (positionOf ph)
+    pub mark : s.phase ≡ mark_of ph
+    pub point : first fit.n s.x ≡ point_of ph
+    pub position : AtPosition (position_of ph)
     pub holds : Holds ph
 
   -- the mark is that of the reason; a simplex fit has no other
   abbrev pub StoppedBy : Termination → Type 0
-  StoppedBy SimplexTolerance = s.phase ≡ byTolerance
-  StoppedBy ObjectiveResolution = s.phase ≡ byResolution
-  StoppedBy MaxIterations = s.phase ≡ bySimplexIterations
-  StoppedBy MaxFevals = s.phase ≡ bySimplexFevals
+  StoppedBy SimplexTolerance = s.phase ≡ by_tolerance
+  StoppedBy ObjectiveResolution = s.phase ≡ by_resolution
+  StoppedBy MaxIterations = s.phase ≡ by_simplex_iterations
+  StoppedBy MaxFevals = s.phase ≡ by_simplex_fevals
   StoppedBy GradientTolerance = ⊥
   StoppedBy StepTolerance = ⊥
   StoppedBy FunctionTolerance = ⊥
@@ -132,7 +132,7 @@ module _ (fit : Fixed) (s : Simplex) where
 
   -- of a simplex that is built no value is finite: refusal 20
   pub record SimplexFailed (k d : ℕ) : Type 0 where
-    pub mark : s.phase ≡ notFinite
+    pub mark : s.phase ≡ not_finite
     pub refusal : k ≡ 20
     pub detail : d ≡ 0
 
@@ -141,34 +141,34 @@ module _ (fit : Fixed) (s : Simplex) where
   RelatedMove (still ph) = Related ph
   RelatedMove (ends (stops y p)) = Stopped y p
   RelatedMove (ends (fails k d)) = SimplexFailed k d
-  RelatedMove (ends (atHead p)) = ⊥
+  RelatedMove (ends (at_head p)) = ⊥
 
 -- ---- a turn goes on through the head, after v accepted values
 
 -- tests of max_iter and max_fevals, then the round
-abbrev pub allowedMove : Bool → Bool → SimplexPosition → Move
-allowedMove true b p = ends (stops MaxIterations p)
-allowedMove false true p = ends (stops MaxFevals p)
-allowedMove false false p = simplexSteps.round p
+abbrev pub allowed_move : Bool → Bool → SimplexPosition → Move
+allowed_move true b p = ends (stops MaxIterations p)
+allowed_move false true p = ends (stops MaxFevals p)
+allowed_move false false p = simplex_steps.round p
 
 -- by what the fit's own tests say
-abbrev pub headedMove : FitLimits → ℕ → Verdict SimplexPosition → SimplexPosition → Move
-headedMove l v goOn p = allowedMove (reached p.iterations l.iter) (reached v l.fevals) p
-headedMove l v (stop y) p = ends (stops y p)
-headedMove l v (restart m) p = simplexSteps.again p
+abbrev pub headed_move : FitLimits → ℕ → Verdict SimplexPosition → SimplexPosition → Move
+headed_move l v go_on p = allowed_move (reached p.iterations l.iter) (reached v l.fevals) p
+headed_move l v (stop y) p = ends (stops y p)
+headed_move l v (restart m) p = simplex_steps.again p
 
 -- the turn goes on
-abbrev pub settledMove : FitLimits → ℕ → Move → Move
-settledMove l v (still ph) = still ph
-settledMove l v (ends (atHead p)) = headedMove l v (tests p) p
-settledMove l v (ends (stops y p)) = ends (stops y p)
-settledMove l v (ends (fails k d)) = ends (fails k d)
+abbrev pub settled_move : FitLimits → ℕ → Move → Move
+settled_move l v (still ph) = still ph
+settled_move l v (ends (at_head p)) = headed_move l v (tests p) p
+settled_move l v (ends (stops y p)) = ends (stops y p)
+settled_move l v (ends (fails k d)) = ends (fails k d)
 
--- it is protocol's `settleTurn` of the fit of any job, at a turn of the simplex's
+-- it is protocol's `settle_turn` of the fit of any job, at a turn of the simplex's
 abbrev pub SimplexSettlesAsFits : Type 1
 SimplexSettlesAsFits =
     (B : Rounds (Bool × GradientOptions)) (SB : Steps B) (l : FitLimits) (v : ℕ) (t : Move)
-    → settleTurn (fits nelderMead B) (fitsSteps nelderMead B simplexSteps SB) l v (mapTurn inl inl t) ≡ mapTurn inl inl (settledMove l v t)
+    → settle_turn (fits nelder_mead B) (fits_steps nelder_mead B simplex_steps SB) l v (map_turn inl inl t) ≡ map_turn inl inl (settled_move l v t)
 
 -- ---- the record follows
 
@@ -179,12 +179,12 @@ pub record SimplexAllows (fit : Fixed) (l : FitLimits) : Type 0 where
 
 pub record SimplexFollows : Type 0 where
   -- the start is at the first question of a simplex about the point
-  pub starts : (fit : Fixed) (x : List Float) → RelatedMove fit (startOf x) (buildAt (nowhere fit.options (first fit.n x)) (first fit.n x))
+  pub starts : (fit : Fixed) (x : List Float) → RelatedMove fit (start_of x) (build_at (nowhere fit.options (first fit.n x)) (first fit.n x))
   -- whatever word w is told, and after whatever count v
   pub follows : (fit : Fixed) (l : FitLimits) (s : Simplex) (ph : Phase) → SimplexAllows fit l → SimplexShaped fit.n s → Related fit s ph
-      → (w : Float) (v : ℕ) → RelatedMove fit (toldOf fit s (readOf w) v) (settledMove l v (stepOf ph (w ∷ [])))
+      → (w : Float) (v : ℕ) → RelatedMove fit (told_of fit s (read_of w) v) (settled_move l v (step_of ph (w ∷ [])))
   -- sizes last, and every coordinate past n is +0.0
-  pub start-shaped : (n : ℕ) (x : List Float) → 1 ≤ n → n ≤ 16 → length x ≡ 16 → SimplexShaped n (startOf x)
-  pub told-shaped : (fit : Fixed) (s : Simplex) (f : Float) (v : ℕ) → SimplexShaped fit.n s → SimplexShaped fit.n (toldOf fit s f v)
-  pub start-zeros : (n : ℕ) (x : List Float) → ZeroFrom n x → EveryPoint (ZeroFrom n) (startOf x)
-  pub told-zeros : (fit : Fixed) (s : Simplex) (f : Float) (v : ℕ) → SimplexShaped fit.n s → EveryPoint (ZeroFrom fit.n) s → EveryPoint (ZeroFrom fit.n) (toldOf fit s f v)
+  pub start_shaped : (n : ℕ) (x : List Float) → 1 ≤ n → n ≤ 16 → length x ≡ 16 → SimplexShaped n (start_of x)
+  pub told_shaped : (fit : Fixed) (s : Simplex) (f : Float) (v : ℕ) → SimplexShaped fit.n s → SimplexShaped fit.n (told_of fit s f v)
+  pub start_zeros : (n : ℕ) (x : List Float) → ZeroFrom n x → EveryPoint (ZeroFrom n) (start_of x)
+  pub told_zeros : (fit : Fixed) (s : Simplex) (f : Float) (v : ℕ) → SimplexShaped fit.n s → EveryPoint (ZeroFrom fit.n) s → EveryPoint (ZeroFrom fit.n) (told_of fit s f v)

@@ -3,8 +3,8 @@
 use Rattle.std.specs.Prelude.{ℕ, Bool, ◌&&◌, cond, pos, ltb, Float}
 use Rattle.std.specs.Float.{binary64}
 use Rattle.std.specs.Float.Ieee.{neg, lt, of_int}
-use Rattle.float.specs.Binary64.{◌⊕◌, ◌⊖◌, ◌⊗◌, ◌⊘◌, bits, plusZero}
-use Rattle.float.specs.Values.{absOf, maxOf}
+use Rattle.float.specs.Binary64.{◌⊕◌, ◌⊖◌, ◌⊗◌, ◌⊘◌, bits, plus_zero}
+use Rattle.float.specs.Values.{abs_of, max_of}
 use Rattle.protocol.specs.declared.SimplexOptions.{SimplexOptions}
 use Rattle.neldermead_vertices.specs.declared.Vertex.{Vertex}
 
@@ -46,7 +46,7 @@ delta o n = cond (adapts o n) (one ⊖ one ⊘ real n) half
 
 -- step = (opts.initial_step * v[i].abs()).max(ZERO_STEP); v[i] += if v[i] < 0.0 { -step } else { step }
 unfoldable pub displaced : Float → Float → Float
-displaced initial v = let step = maxOf (initial ⊗ absOf v) (bits 0x3f30_624d_d2f1_a9fc) in v ⊕ cond (lt v plusZero) (neg step) step
+displaced initial v = let step = max_of (initial ⊗ abs_of v) (bits 0x3f30_624d_d2f1_a9fc) in v ⊕ cond (lt v plus_zero) (neg step) step
 
 -- ---- the floors of the tests, and the best of all runs
 

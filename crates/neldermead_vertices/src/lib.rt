@@ -3,7 +3,7 @@
 
 ghost use Rattle.std.specs.Prelude.{◌≡◌, ◌≤◌, ◌<◌};
 ghost use Rattle.neldermead_vertices.specs.Method.{adapts, beta, gamma, delta, displaced, resolution, better};
-ghost use Rattle.neldermead_vertices.specs.Vertices.{sortedOf, centroidOf, cornerOf, sizeOf, anyFiniteOf, flatOf, convergedOf};
+ghost use Rattle.neldermead_vertices.specs.Vertices.{sorted_of, centroid_of, corner_of, size_of, any_finite_of, flat_of, converged_of};
 
 use protocol::SimplexOptions;
 
@@ -25,7 +25,7 @@ pub struct Vertex {
 // precede it, so that equal ones stay as they stood. In place: an array passed to a call is copied whole.
 pub fn sorted(v: [Vertex; 17], n: usize) -> [Vertex; 17]
     requires { n ≤ 16 }
-    ensures { result ≡ sortedOf v n }
+    ensures { result ≡ sorted_of v n }
 {
     let mut w = v;
     let mut i = n;
@@ -48,7 +48,7 @@ pub fn sorted(v: [Vertex; 17], n: usize) -> [Vertex; 17]
 // The mean of the first n vertices.
 pub fn centroid(v: [Vertex; 17], n: usize) -> [f64; 16]
     requires { n ≤ 16 }
-    ensures { result ≡ centroidOf v n }
+    ensures { result ≡ centroid_of v n }
 {
     let mut sum = [0.0; 16];
     let mut i: usize = 0;
@@ -76,7 +76,7 @@ fn edge(initial: f64, v: f64) -> f64
 // The seed with coordinate i displaced.
 pub fn corner(initial: f64, seed: [f64; 16], i: usize) -> [f64; 16]
     requires { i < 16 }
-    ensures { result ≡ cornerOf initial seed i }
+    ensures { result ≡ corner_of initial seed i }
 {
     let mut x = seed;
     x[i] = edge(initial, seed[i]);
@@ -86,7 +86,7 @@ pub fn corner(initial: f64, seed: [f64; 16], i: usize) -> [f64; 16]
 // The largest distance of the others of the first n + 1 vertices from the first.
 fn size(v: [Vertex; 17], n: usize) -> f64
     requires { n ≤ 16 }
-    ensures { result ≡ sizeOf v n n }
+    ensures { result ≡ size_of v n n }
 {
     let b = v[0];
     let y = b.x;
@@ -105,7 +105,7 @@ fn size(v: [Vertex; 17], n: usize) -> f64
 // Whether one of the first k values is finite.
 pub fn any_finite(v: [Vertex; 17], k: usize) -> bool
     requires { k ≤ 17 }
-    ensures { result ≡ anyFiniteOf v k }
+    ensures { result ≡ any_finite_of v k }
 {
     let mut i: usize = 0;
     while i < k {
@@ -127,7 +127,7 @@ pub fn floor(scale: f64) -> f64
 
 // Whether the spread of values is within the tolerance or its floor.
 fn flat(tol: f64, least: f64, most: f64) -> bool
-    ensures { result ≡ flatOf tol least most }
+    ensures { result ≡ flat_of tol least most }
 {
     float::abs(most - least) <= float::max(tol, floor(float::abs(least)))
 }
@@ -136,7 +136,7 @@ fn flat(tol: f64, least: f64, most: f64) -> bool
 // first: the size takes all coordinates.
 pub fn converged(o: SimplexOptions, v: [Vertex; 17], n: usize) -> bool
     requires { n ≤ 16 }
-    ensures { result ≡ convergedOf o v n }
+    ensures { result ≡ converged_of o v n }
 {
     let b = v[0];
     if !flat(o.ftol, b.f, v[n].f) {

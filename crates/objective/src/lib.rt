@@ -2,9 +2,9 @@
 #![tactic(auto)]
 
 ghost use Rattle.std.specs.Prelude.{◌≡◌, ◌<◌};
-ghost use Rattle.protocol.specs.Protocol.{readOf};
-ghost use Rattle.objective.specs.Algorithm.{differenceStep, forwardOf, backwardOf};
-ghost use Rattle.objective.specs.Step.{begunOf, probeOf, toldOf};
+ghost use Rattle.protocol.specs.Protocol.{read_of};
+ghost use Rattle.objective.specs.Algorithm.{difference_step, forward_of, backward_of};
+ghost use Rattle.objective.specs.Step.{begun_of, probe_of, told_of};
 
 // Central differences as far as they have come: `at` coordinates are done, `forward` says whether x + h
 // of the next is told, and `value` what was told there; the point, and the gradient so far. It is done
@@ -20,7 +20,7 @@ pub struct Differences {
 
 // How every value told passes into a fit: one that is not finite is read as +infinity.
 pub fn read(v: f64) -> f64
-    ensures { result ≡ readOf v }
+    ensures { result ≡ read_of v }
 {
     if float::is_finite(v) {
         return v;
@@ -30,25 +30,25 @@ pub fn read(v: f64) -> f64
 
 // The step of a difference at a coordinate of a typical size.
 pub fn difference_step(x: f64, size: f64) -> f64
-    ensures { result ≡ differenceStep x size }
+    ensures { result ≡ difference_step x size }
 {
     float::difference_factor() * float::max(float::abs(x), size)
 }
 
 pub fn forward(x: f64) -> f64
-    ensures { result ≡ forwardOf x }
+    ensures { result ≡ forward_of x }
 {
     x + difference_step(x, 1.0)
 }
 
 pub fn backward(x: f64) -> f64
-    ensures { result ≡ backwardOf x }
+    ensures { result ≡ backward_of x }
 {
     x - difference_step(x, 1.0)
 }
 
 pub fn begun(x: [f64; 16]) -> Differences
-    ensures { result ≡ begunOf x }
+    ensures { result ≡ begun_of x }
 {
     let g = [0.0; 16];
     Differences {
@@ -63,7 +63,7 @@ pub fn begun(x: [f64; 16]) -> Differences
 // The point at which a value is asked for.
 pub fn probe(s: Differences) -> [f64; 16]
     requires { s.at < 16 }
-    ensures { result ≡ probeOf s }
+    ensures { result ≡ probe_of s }
 {
     let i = s.at;
     let mut x = s.x;
@@ -79,7 +79,7 @@ pub fn probe(s: Differences) -> [f64; 16]
 // What then stands, when v is told there.
 pub fn told(s: Differences, v: f64) -> Differences
     requires { s.at < 16 }
-    ensures { result ≡ toldOf s v }
+    ensures { result ≡ told_of s v }
 {
     let i = s.at;
     let x = s.x;

@@ -6,38 +6,38 @@ use mathlib.Core.List.{List}
 use lib.Dec.{eqb}
 use lib.ListN.{length, get_or}
 use lib.Ieee.{Float, nan}
-use borrow.Author.Tests.{eqb-true, eq-eqb, ne_eqb}
-use Rattle.vector.specs.Points.{fromSliceOf}
+use borrow.Author.Tests.{eqb_true, eq-eqb, ne_eqb}
+use Rattle.vector.specs.Points.{from_slice_of}
 use Rattle.objective.specs.declared.Differences.{Differences}
-use Rattle.objective.specs.Step.{toldOf}
+use Rattle.objective.specs.Step.{told_of}
 use Rattle.quasinewton_model.specs.declared.Model.{Model}
 use Rattle.quasinewton_record.specs.declared.Descent.{Descent}
 use Rattle.quasinewton_record.specs.declared.Fixed.{Fixed}
-use Rattle.quasinewton.specs.Step.{asksOf, storesPairOf, updatedOf, modelAfterOf, onwardOf}
-use Rattle.quasinewton.proofs.Parts.{settled-parts}
+use Rattle.quasinewton.specs.Step.{asks_of, stores_pair_of, updated_of, model_after_of, onward_of}
+use Rattle.quasinewton.proofs.Parts.{settled_parts}
 use Rattle.neldermead.specs.declared.Simplex.{Simplex}
-use Rattle.protocol.specs.Protocol.{Reply, simplexMark, searchMark}
+use Rattle.protocol.specs.Protocol.{Reply, simplex_mark, search_mark}
 use Rattle.optim_record.specs.declared.Counts.{Counts}
 use Rattle.optim_record.specs.declared.Record.{Record}
-use Rattle.optim_record.specs.Record.{gradientFixedOf, gradientJobOf, validOf, Ranges, Open, Stands}
-use Rattle.optim_reply.specs.Standing.{refusedOf, overOf, gradientDueOf, standingOf}
-use Rattle.optim_rules.specs.Rules.{repeatsOf, suitsOf, meetsOf, acceptsOf}
-use Rattle.optim_rules.specs.Moves.{countedOf, simplexToldOf, searchToldOf, descentToldOf, Worded}
-use Rattle.optim_rules.proofs.Ranges.{ranges, open-of, stands, one-word, n-words}
-use Rattle.optim.specs.Answer.{steppedOf, gradedOf, takenOf, takenGradientOf, heardOf, answerOf}
-use Rattle.optim.specs.Parts.{repliedOf}
-use Rattle.optim.proofs.Asking.{asking-model, asking-rests}
-use Rattle.optim.proofs.Ranges.{stepped-stands, graded-stands}
+use Rattle.optim_record.specs.Record.{gradient_fixed_of, gradient_job_of, valid_of, Ranges, Open, Stands}
+use Rattle.optim_reply.specs.Standing.{refused_of, over_of, gradient_due_of, standing_of}
+use Rattle.optim_rules.specs.Rules.{repeats_of, suits_of, meets_of, accepts_of}
+use Rattle.optim_rules.specs.Moves.{counted_of, simplex_told_of, search_told_of, descent_told_of, Worded}
+use Rattle.optim_rules.proofs.Ranges.{ranges, open_of, stands, one_word, n_words}
+use Rattle.optim.specs.Answer.{stepped_of, graded_of, taken_of, taken_gradient_of, heard_of, answer_of}
+use Rattle.optim.specs.Parts.{replied_of}
+use Rattle.optim.proofs.Asking.{asking_model, asking_rests}
+use Rattle.optim.proofs.Ranges.{stepped_stands, graded_stands}
 
 -- ---- the record
 
 -- the record after an answer that is accepted
-abbrev pub advancedOf : Record → List Float → Record
-advancedOf r words = cond (gradientDueOf r) (gradedOf r (fromSliceOf words r.n)) (steppedOf r (get_or words 0 nan))
+abbrev pub advanced_of : Record → List Float → Record
+advanced_of r words = cond (gradient_due_of r) (graded_of r (from_slice_of words r.n)) (stepped_of r (get_or words 0 nan))
 
 -- a record with other parts
-abbrev pub withParts : Record → Differences → Simplex → Descent → Model → Record
-withParts r d s q m =
+abbrev pub with_parts : Record → Differences → Simplex → Descent → Model → Record
+with_parts r d s q m =
     record {
       accepted = r.accepted;
       job = r.job;
@@ -53,8 +53,8 @@ withParts r d s q m =
     }
 
 -- a record with one answer more
-abbrev pub withCounts : Record → Counts → Record
-withCounts r c =
+abbrev pub with_counts : Record → Counts → Record
+with_counts r c =
     record {
       accepted = r.accepted + 1;
       job = r.job;
@@ -70,99 +70,99 @@ withCounts r c =
     }
 
 -- the model of a gradient fit, and its descent
-abbrev pub modelOf : Record → List Float → Model
-modelOf r words = modelAfterOf (gradientFixedOf r) (descentToldOf r words) r.model
+abbrev pub model_of : Record → List Float → Model
+model_of r words = model_after_of (gradient_fixed_of r) (descent_told_of r words) r.model
 
-abbrev pub descentOf : Record → List Float → Descent
-descentOf r words = onwardOf (gradientFixedOf r) (descentToldOf r words) (modelOf r words) (countedOf r).fevals
+abbrev pub descent_of : Record → List Float → Descent
+descent_of r words = onward_of (gradient_fixed_of r) (descent_told_of r words) (model_of r words) (counted_of r).fevals
 
 -- the parts after an answer, by the job
-abbrev pub movedOf : Record → List Float → Record
-movedOf r words =
-    cond (eqb r.job simplexMark) (withParts r r.diff (simplexToldOf r words) r.descent r.model)
-    (cond (eqb r.job searchMark) (withParts r r.diff r.simplex (searchToldOf r words) r.model)
-    (cond (gradientJobOf r.job) (withParts r r.diff r.simplex (descentOf r words) (modelOf r words))
-    (withParts r (toldOf r.diff (get_or words 0 nan)) r.simplex r.descent r.model)))
+abbrev pub moved_of : Record → List Float → Record
+moved_of r words =
+    cond (eqb r.job simplex_mark) (with_parts r r.diff (simplex_told_of r words) r.descent r.model)
+    (cond (eqb r.job search_mark) (with_parts r r.diff r.simplex (search_told_of r words) r.model)
+    (cond (gradient_job_of r.job) (with_parts r r.diff r.simplex (descent_of r words) (model_of r words))
+    (with_parts r (told_of r.diff (get_or words 0 nan)) r.simplex r.descent r.model)))
 
 -- the model and the descent, by what the calls gave
-module _ (r : Record) (words : List Float) (f : Fixed) (t : Descent) (i : f ≡ gradientFixedOf r) (j : t ≡ descentToldOf r words) where
-  pub model-stored : (b : Bool) (m : Model) → b ≡ storesPairOf f t → b ≡ true → m ≡ updatedOf f t r.model → m ≡ modelOf r words
-  unfolding modelAfterOf
-  model-stored b m e d u = u ∙ rw (← i, ← j, ← e, d)
+module _ (r : Record) (words : List Float) (f : Fixed) (t : Descent) (i : f ≡ gradient_fixed_of r) (j : t ≡ descent_told_of r words) where
+  pub model_stored : (b : Bool) (m : Model) → b ≡ stores_pair_of f t → b ≡ true → m ≡ updated_of f t r.model → m ≡ model_of r words
+  unfolding model_after_of
+  model_stored b m e d u = u ∙ rw (← i, ← j, ← e, d)
 
-  pub model-left : (b : Bool) → b ≡ storesPairOf f t → b ≡ false → r.model ≡ modelOf r words
-  unfolding modelAfterOf
-  model-left b e d = rw (← i, ← j, ← e, d)
+  pub model_left : (b : Bool) → b ≡ stores_pair_of f t → b ≡ false → r.model ≡ model_of r words
+  unfolding model_after_of
+  model_left b e d = rw (← i, ← j, ← e, d)
 
-  pub descent-on : (m : Model) (c : Counts) (q : Descent) → m ≡ modelOf r words → c ≡ countedOf r → q ≡ onwardOf f t m c.fevals → q ≡ descentOf r words
-  descent-on m c q k l e = e ∙ rw (i, j, k, l)
+  pub descent_on : (m : Model) (c : Counts) (q : Descent) → m ≡ model_of r words → c ≡ counted_of r → q ≡ onward_of f t m c.fevals → q ≡ descent_of r words
+  descent_on m c q k l e = e ∙ rw (i, j, k, l)
 
--- `movedOf` by the branch that was taken
+-- `moved_of` by the branch that was taken
 module _ (r : Record) (words : List Float) where
-  pub simplex-moved : (s : Simplex) → r.job ≡ simplexMark → s ≡ simplexToldOf r words → withParts r r.diff s r.descent r.model ≡ movedOf r words
-  simplex-moved s e f = rw (eq-eqb _ _ e, f)
+  pub simplex_moved : (s : Simplex) → r.job ≡ simplex_mark → s ≡ simplex_told_of r words → with_parts r r.diff s r.descent r.model ≡ moved_of r words
+  simplex_moved s e f = rw (eq-eqb _ _ e, f)
 
-  module _ (d : r.job ≡ simplexMark → ⊥) where
-    pub search-moved : (t : Descent) → r.job ≡ searchMark → t ≡ searchToldOf r words → withParts r r.diff r.simplex t r.model ≡ movedOf r words
-    search-moved t e f = rw (ne_eqb _ _ d, eq-eqb _ _ e, f)
+  module _ (d : r.job ≡ simplex_mark → ⊥) where
+    pub search_moved : (t : Descent) → r.job ≡ search_mark → t ≡ search_told_of r words → with_parts r r.diff r.simplex t r.model ≡ moved_of r words
+    search_moved t e f = rw (ne_eqb _ _ d, eq-eqb _ _ e, f)
 
-    module _ (e : r.job ≡ searchMark → ⊥) (b : Bool) (g : b ≡ gradientJobOf r.job) where
-      pub descent-moved : (p : Record) (q : Descent) → b ≡ true → p ≡ withParts r r.diff r.simplex r.descent (modelOf r words) → q ≡ descentOf r words
-          → withParts p p.diff p.simplex q p.model ≡ movedOf r words
-      descent-moved p q t k f = rw (ne_eqb _ _ d, ne_eqb _ _ e, ← g, t, k, f)
+    module _ (e : r.job ≡ search_mark → ⊥) (b : Bool) (g : b ≡ gradient_job_of r.job) where
+      pub descent_moved : (p : Record) (q : Descent) → b ≡ true → p ≡ with_parts r r.diff r.simplex r.descent (model_of r words) → q ≡ descent_of r words
+          → with_parts p p.diff p.simplex q p.model ≡ moved_of r words
+      descent_moved p q t k f = rw (ne_eqb _ _ d, ne_eqb _ _ e, ← g, t, k, f)
 
-      pub asking-moved : (q : Descent) → b ≡ true → q ≡ descentToldOf r words → asksOf q ≡ true → withParts r r.diff r.simplex q r.model ≡ movedOf r words
-      asking-moved q t f a = rw (ne_eqb _ _ d, ne_eqb _ _ e, ← g, t, ← f, asking-model (gradientFixedOf r) q a r.model, asking-rests (gradientFixedOf r) q a r.model (countedOf r).fevals)
+      pub asking_moved : (q : Descent) → b ≡ true → q ≡ descent_told_of r words → asks_of q ≡ true → with_parts r r.diff r.simplex q r.model ≡ moved_of r words
+      asking_moved q t f a = rw (ne_eqb _ _ d, ne_eqb _ _ e, ← g, t, ← f, asking_model (gradient_fixed_of r) q a r.model, asking_rests (gradient_fixed_of r) q a r.model (counted_of r).fevals)
 
-      pub differences-moved : (q : Differences) → b ≡ false → q ≡ toldOf r.diff (get_or words 0 nan) → withParts r q r.simplex r.descent r.model ≡ movedOf r words
-      differences-moved q t f = rw (ne_eqb _ _ d, ne_eqb _ _ e, ← g, t, f)
+      pub differences_moved : (q : Differences) → b ≡ false → q ≡ told_of r.diff (get_or words 0 nan) → with_parts r q r.simplex r.descent r.model ≡ moved_of r words
+      differences_moved q t f = rw (ne_eqb _ _ d, ne_eqb _ _ e, ← g, t, f)
 
 -- neither a simplex fit nor differences ask for a gradient
-pub due-simplex : (r : Record) → r.job ≡ simplexMark → gradientDueOf r ≡ false
-unfolding gradientDueOf gradientJobOf
-due-simplex r e = rw e
+pub due_simplex : (r : Record) → r.job ≡ simplex_mark → gradient_due_of r ≡ false
+unfolding gradient_due_of gradient_job_of
+due_simplex r e = rw e
 
-pub due-other : (r : Record) → eqb r.job searchMark ≡ false → gradientJobOf r.job ≡ false → gradientDueOf r ≡ false
-unfolding gradientDueOf
-due-other r e f = rw (e, f)
+pub due_other : (r : Record) → eqb r.job search_mark ≡ false → gradient_job_of r.job ≡ false → gradient_due_of r ≡ false
+unfolding gradient_due_of
+due_other r e f = rw (e, f)
 
 -- no part has another's number
-pub moved-accepted : (r : Record) (words : List Float) → (movedOf r words).accepted ≡ r.accepted
-moved-accepted r words = go (eqb r.job simplexMark) (eqb r.job searchMark) (gradientJobOf r.job)
+pub moved_accepted : (r : Record) (words : List Float) → (moved_of r words).accepted ≡ r.accepted
+moved_accepted r words = go (eqb r.job simplex_mark) (eqb r.job search_mark) (gradient_job_of r.job)
   where
     go : (b c d : Bool)
-        → (cond b (withParts r r.diff (simplexToldOf r words) r.descent r.model) (cond c (withParts r r.diff r.simplex (searchToldOf r words) r.model) (cond d (withParts r r.diff r.simplex (descentOf r words) (modelOf r words)) (withParts r (toldOf r.diff (get_or words 0 nan)) r.simplex r.descent r.model)))).accepted
+        → (cond b (with_parts r r.diff (simplex_told_of r words) r.descent r.model) (cond c (with_parts r r.diff r.simplex (search_told_of r words) r.model) (cond d (with_parts r r.diff r.simplex (descent_of r words) (model_of r words)) (with_parts r (told_of r.diff (get_or words 0 nan)) r.simplex r.descent r.model)))).accepted
         ≡ r.accepted
     go true c d = refl
     go false true d = refl
     go false false true = refl
     go false false false = refl
 
-pub advance : (r : Record) (words : List Float) → withCounts (movedOf r words) (countedOf r) ≡ advancedOf r words
-unfolding steppedOf gradedOf countedOf simplexToldOf searchToldOf descentToldOf
-advance r words = at (eqb r.job simplexMark) (eqb r.job searchMark) (gradientJobOf r.job) (gradientDueOf r) refl refl refl refl
+pub advance : (r : Record) (words : List Float) → with_counts (moved_of r words) (counted_of r) ≡ advanced_of r words
+unfolding stepped_of graded_of counted_of simplex_told_of search_told_of descent_told_of
+advance r words = at (eqb r.job simplex_mark) (eqb r.job search_mark) (gradient_job_of r.job) (gradient_due_of r) refl refl refl refl
   where
-    at : (b c d e : Bool) → eqb r.job simplexMark ≡ b → eqb r.job searchMark ≡ c → gradientJobOf r.job ≡ d → gradientDueOf r ≡ e
-        → withCounts (movedOf r words) (countedOf r) ≡ advancedOf r words
-    at true c d true p q s t = absurd (true≢false (sym t ∙ due-simplex r (eqb-true _ _ p)))
+    at : (b c d e : Bool) → eqb r.job simplex_mark ≡ b → eqb r.job search_mark ≡ c → gradient_job_of r.job ≡ d → gradient_due_of r ≡ e
+        → with_counts (moved_of r words) (counted_of r) ≡ advanced_of r words
+    at true c d true p q s t = absurd (true≢false (sym t ∙ due_simplex r (eqb_true _ _ p)))
     at true c d false p q s t = rw (p, t)
     at false true d true p q s t = rw (p, q, t)
     at false true d false p q s t = rw (p, q, t)
-    at false false true true p q s t = rw (p, q, s, t) (sym (rw (settled-parts _ _ _ _)))
-    at false false true false p q s t = rw (p, q, s, t) (sym (rw (settled-parts _ _ _ _)))
-    at false false false true p q s t = absurd (true≢false (sym t ∙ due-other r q s))
+    at false false true true p q s t = rw (p, q, s, t) (sym (rw (settled_parts _ _ _ _)))
+    at false false true false p q s t = rw (p, q, s, t) (sym (rw (settled_parts _ _ _ _)))
+    at false false false true p q s t = absurd (true≢false (sym t ∙ due_other r q s))
     at false false false false p q s t = rw (p, q, s, t)
 
-pub advanced-stands : (r : Record) (words : List Float) → Ranges r → Open r → Stands (advancedOf r words)
-advanced-stands r words h o = go (gradientDueOf r)
+pub advanced_stands : (r : Record) (words : List Float) → Ranges r → Open r → Stands (advanced_of r words)
+advanced_stands r words h o = go (gradient_due_of r)
   where
-    go : (b : Bool) → Stands (cond b (gradedOf r (fromSliceOf words r.n)) (steppedOf r (get_or words 0 nan)))
-    go true = graded-stands r (fromSliceOf words r.n) h
-    go false = stepped-stands r (get_or words 0 nan) h o
+    go : (b : Bool) → Stands (cond b (graded_of r (from_slice_of words r.n)) (stepped_of r (get_or words 0 nan)))
+    go true = graded_stands r (from_slice_of words r.n) h
+    go false = stepped_stands r (get_or words 0 nan) h o
 
 -- ---- the refusal
 
--- `meetsOf` and `acceptsOf` by their tests: valid, a repeat, over, due, suited
+-- `meets_of` and `accepts_of` by their tests: valid, a repeat, over, due, suited
 abbrev code : Bool → Bool → Bool → Bool → Bool → ℕ
 code v p o n s = cond (not v) 1 (cond p 0 (cond o 15 (cond (not n) 16 (cond (not s) 17 0))))
 
@@ -177,76 +177,76 @@ means true false false false s e = absurd (true≢false (sym e))
 means true false false true false e = absurd (true≢false (sym e))
 means true false false true true e = (refl, refl, refl, refl, refl)
 
-zero-valid : (v p o n s : Bool) → code v p o n s ≡ 0 → v ≡ true
-zero-valid true p o n s e = refl
-zero-valid false p o n s e = absurd (true≢false (sym (ap (λ (w : ℕ). eqb w 0) e)))
+zero_valid : (v p o n s : Bool) → code v p o n s ≡ 0 → v ≡ true
+zero_valid true p o n s e = refl
+zero_valid false p o n s e = absurd (true≢false (sym (ap (λ (w : ℕ). eqb w 0) e)))
 
 module _ (r : Record) (number kind : ℕ) (words : List Float) where
   abbrev why : ℕ
-  why = meetsOf r number kind (length words)
+  why = meets_of r number kind (length words)
 
   -- what an accepted answer has passed
-  pub passes : acceptsOf r number why ≡ true
-      → (validOf r ≡ true) × (repeatsOf r.accepted number ≡ false) × (overOf r ≡ false) × (eqb number (r.accepted + 1) ≡ true) × (suitsOf r kind (length words) ≡ true)
-  unfolding acceptsOf meetsOf
-  passes e = means (validOf r) (repeatsOf r.accepted number) (overOf r) (eqb number (r.accepted + 1)) (suitsOf r kind (length words)) e
+  pub passes : accepts_of r number why ≡ true
+      → (valid_of r ≡ true) × (repeats_of r.accepted number ≡ false) × (over_of r ≡ false) × (eqb number (r.accepted + 1) ≡ true) × (suits_of r kind (length words) ≡ true)
+  unfolding accepts_of meets_of
+  passes e = means (valid_of r) (repeats_of r.accepted number) (over_of r) (eqb number (r.accepted + 1)) (suits_of r kind (length words)) e
 
-  pub accepted-ranges : acceptsOf r number why ≡ true → Ranges r
-  accepted-ranges e = ranges r (passes e).0
+  pub accepted_ranges : accepts_of r number why ≡ true → Ranges r
+  accepted_ranges e = ranges r (passes e).0
 
-  pub accepted-open : acceptsOf r number why ≡ true → Open r
-  accepted-open e = open-of r (accepted-ranges e) (passes e).2
+  pub accepted_open : accepts_of r number why ≡ true → Open r
+  accepted_open e = open_of r (accepted_ranges e) (passes e).2
 
-  pub accepted-worded : acceptsOf r number why ≡ true → Worded r words
-  accepted-worded e = (λ d. n-words r kind words d (passes e).4, λ d. one-word r kind words d (passes e).4)
+  pub accepted_worded : accepts_of r number why ≡ true → Worded r words
+  accepted_worded e = (λ d. n_words r kind words d (passes e).4, λ d. one_word r kind words d (passes e).4)
 
   -- the record that is kept: it moves where the answer is accepted
-  abbrev pub keptOf : Record
-  keptOf = cond (acceptsOf r number why) (advancedOf r words) r
+  abbrev pub kept_of : Record
+  kept_of = cond (accepts_of r number why) (advanced_of r words) r
 
-  pub kept-moved : (p : Record) (c : Counts) → acceptsOf r number why ≡ true → p ≡ movedOf r words → c ≡ countedOf r → withCounts p c ≡ keptOf
-  kept-moved p c e f g = rw (e, f, g) (advance r words)
+  pub kept_moved : (p : Record) (c : Counts) → accepts_of r number why ≡ true → p ≡ moved_of r words → c ≡ counted_of r → with_counts p c ≡ kept_of
+  kept_moved p c e f g = rw (e, f, g) (advance r words)
 
-  pub kept-left : acceptsOf r number why ≡ false → r ≡ keptOf
-  kept-left e = rw e
+  pub kept_left : accepts_of r number why ≡ false → r ≡ kept_of
+  kept_left e = rw e
 
   -- no refusal but 1 is met by a record out of range
-  none-valid : why ≡ 0 → validOf r ≡ true
-  unfolding meetsOf
-  none-valid z = zero-valid (validOf r) (repeatsOf r.accepted number) (overOf r) (eqb number (r.accepted + 1)) (suitsOf r kind (length words)) z
+  none_valid : why ≡ 0 → valid_of r ≡ true
+  unfolding meets_of
+  none_valid z = zero_valid (valid_of r) (repeats_of r.accepted number) (over_of r) (eqb number (r.accepted + 1)) (suits_of r kind (length words)) z
 
-  pub kept-stands : why ≡ 0 → Stands keptOf
-  kept-stands z = go (acceptsOf r number why) refl
+  pub kept_stands : why ≡ 0 → Stands kept_of
+  kept_stands z = go (accepts_of r number why) refl
     where
-      go : (b : Bool) → acceptsOf r number why ≡ b → Stands (cond b (advancedOf r words) r)
-      go true e = advanced-stands r words (accepted-ranges e) (accepted-open e)
-      go false e = stands r (ranges r (none-valid z))
+      go : (b : Bool) → accepts_of r number why ≡ b → Stands (cond b (advanced_of r words) r)
+      go true e = advanced_stands r words (accepted_ranges e) (accepted_open e)
+      go false e = stands r (ranges r (none_valid z))
 
   abbrev goes : Reply × Record
-  goes = cond (gradientDueOf r) (takenGradientOf r (fromSliceOf words r.n)) (takenOf r (get_or words 0 nan))
+  goes = cond (gradient_due_of r) (taken_gradient_of r (from_slice_of words r.n)) (taken_of r (get_or words 0 nan))
 
-  goes-on : standingOf (advancedOf r words) ≡ goes
-  unfolding takenOf takenGradientOf
-  goes-on = go (gradientDueOf r)
+  goes_on : standing_of (advanced_of r words) ≡ goes
+  unfolding taken_of taken_gradient_of
+  goes_on = go (gradient_due_of r)
     where
-      go : (b : Bool) → standingOf (cond b (gradedOf r (fromSliceOf words r.n)) (steppedOf r (get_or words 0 nan)))
-          ≡ cond b (takenGradientOf r (fromSliceOf words r.n)) (takenOf r (get_or words 0 nan))
+      go : (b : Bool) → standing_of (cond b (graded_of r (from_slice_of words r.n)) (stepped_of r (get_or words 0 nan)))
+          ≡ cond b (taken_gradient_of r (from_slice_of words r.n)) (taken_of r (get_or words 0 nan))
       go true = refl
       go false = refl
 
   -- the reply is what the answer's definition says
-  pub replies : repliedOf keptOf why ≡ answerOf r number kind words
-  unfolding acceptsOf meetsOf repliedOf answerOf heardOf
-  replies = go (validOf r) (repeatsOf r.accepted number) (overOf r) (eqb number (r.accepted + 1)) (suitsOf r kind (length words))
+  pub replies : replied_of kept_of why ≡ answer_of r number kind words
+  unfolding accepts_of meets_of replied_of answer_of heard_of
+  replies = go (valid_of r) (repeats_of r.accepted number) (over_of r) (eqb number (r.accepted + 1)) (suits_of r kind (length words))
     where
       said : ℕ → Record → Reply × Record
-      said w q = cond (not (eqb w 0)) (refusedOf q w 0) (standingOf q)
+      said w q = cond (not (eqb w 0)) (refused_of q w 0) (standing_of q)
 
-      go : (v p o n s : Bool) → said (code v p o n s) (cond (taken v p o n s) (advancedOf r words) r)
-          ≡ cond v (cond p (standingOf r) (cond o (refusedOf r 15 0) (cond (not n) (refusedOf r 16 0) (cond (not s) (refusedOf r 17 0) goes)))) (refusedOf r 1 0)
+      go : (v p o n s : Bool) → said (code v p o n s) (cond (taken v p o n s) (advanced_of r words) r)
+          ≡ cond v (cond p (standing_of r) (cond o (refused_of r 15 0) (cond (not n) (refused_of r 16 0) (cond (not s) (refused_of r 17 0) goes)))) (refused_of r 1 0)
       go false p o n s = refl
       go true true o n s = refl
       go true false true n s = refl
       go true false false false s = refl
       go true false false true false = refl
-      go true false false true true = goes-on
+      go true false false true true = goes_on

@@ -1,24 +1,24 @@
 -- The reply to an answer, for every record and every answer. Definitions only.
 use Rattle.std.specs.Prelude.{ℕ, ◌+◌, cond, not, List, eqb, length, get_or, Float}
 use Rattle.std.specs.Float.{nan}
-use Rattle.vector.specs.Points.{fromSliceOf}
-use Rattle.protocol.specs.Protocol.{Reply, readOf, simplexMark, searchMark}
+use Rattle.vector.specs.Points.{from_slice_of}
+use Rattle.protocol.specs.Protocol.{Reply, read_of, simplex_mark, search_mark}
 use Rattle.objective.specs.declared.Differences.{Differences}
-use Rattle.objective.specs.Step.{toldOf}
+use Rattle.objective.specs.Step.{told_of}
 use Rattle.linesearch.specs.Step as linesearch
 use Rattle.quasinewton_model.specs.declared.Model.{Model}
 use Rattle.quasinewton_record.specs.declared.Descent.{Descent}
 use Rattle.quasinewton.specs.Step as quasinewton
 use Rattle.neldermead.specs.declared.Simplex.{Simplex}
-use Rattle.neldermead.specs.Step.{toldOf as simplexTold}
+use Rattle.neldermead.specs.Step.{told_of as simplexTold}
 use Rattle.optim_record.specs.declared.Record.{Record}
-use Rattle.optim_record.specs.Record.{fixedOf, searchFixedOf, gradientFixedOf, gradientJobOf, validOf}
-use Rattle.optim_reply.specs.Standing.{refusedOf, overOf, gradientDueOf, standingOf}
-use Rattle.optim_rules.specs.Rules.{repeatsOf, suitsOf}
+use Rattle.optim_record.specs.Record.{fixed_of, search_fixed_of, gradient_fixed_of, gradient_job_of, valid_of}
+use Rattle.optim_reply.specs.Standing.{refused_of, over_of, gradient_due_of, standing_of}
+use Rattle.optim_rules.specs.Rules.{repeats_of, suits_of}
 
 -- one V answer accepted more, and the parts that it moves
-abbrev pub valuedOf : Record → Differences → Simplex → Descent → Model → Record
-valuedOf r d q s m =
+abbrev pub valued_of : Record → Differences → Simplex → Descent → Model → Record
+valued_of r d q s m =
     record {
       accepted = r.accepted + 1;
       job = r.job;
@@ -35,18 +35,18 @@ valuedOf r d q s m =
 
 -- the record after the value v that was asked for: "In fits `Counted` reads any non-finite value as +infinity. Bare `strong_wolfe` does so for trials only, not for its difference
 -- values. Bare differences never do."
-unfoldable pub steppedOf : Record → Float → Record
-steppedOf r v =
+unfoldable pub stepped_of : Record → Float → Record
+stepped_of r v =
     let d = r.descent in
-    let q = quasinewton.settledOf (gradientFixedOf r) (quasinewton.toldOf (gradientFixedOf r) d (readOf v)) r.model (r.counts.fevals + 1) in
-    cond (eqb r.job simplexMark) (valuedOf r r.diff (simplexTold (fixedOf r) r.simplex (readOf v) (r.counts.fevals + 1)) d r.model)
-    (cond (eqb r.job searchMark) (valuedOf r r.diff r.simplex (quasinewton.withSearch d (linesearch.toldOf (searchFixedOf r) d.line d.search (readOf v) v)) r.model)
-    (cond (gradientJobOf r.job) (valuedOf r r.diff r.simplex q.descent q.model)
-    (valuedOf r (toldOf r.diff v) r.simplex d r.model)))
+    let q = quasinewton.settled_of (gradient_fixed_of r) (quasinewton.told_of (gradient_fixed_of r) d (read_of v)) r.model (r.counts.fevals + 1) in
+    cond (eqb r.job simplex_mark) (valued_of r r.diff (simplexTold (fixed_of r) r.simplex (read_of v) (r.counts.fevals + 1)) d r.model)
+    (cond (eqb r.job search_mark) (valued_of r r.diff r.simplex (quasinewton.with_search d (linesearch.told_of (search_fixed_of r) d.line d.search (read_of v) v)) r.model)
+    (cond (gradient_job_of r.job) (valued_of r r.diff r.simplex q.descent q.model)
+    (valued_of r (told_of r.diff v) r.simplex d r.model)))
 
 -- one G answer accepted more, and the parts that it moves
-abbrev pub slopedOf : Record → Descent → Model → Record
-slopedOf r d m =
+abbrev pub sloped_of : Record → Descent → Model → Record
+sloped_of r d m =
     record {
       accepted = r.accepted + 1;
       job = r.job;
@@ -62,29 +62,29 @@ slopedOf r d m =
     }
 
 -- the record after the gradient g that was asked for, by a search or by a gradient fit
-unfoldable pub gradedOf : Record → List Float → Record
-gradedOf r g =
+unfoldable pub graded_of : Record → List Float → Record
+graded_of r g =
     let d = r.descent in
-    let q = quasinewton.settledOf (gradientFixedOf r) (quasinewton.toldGradientOf (gradientFixedOf r) d g) r.model r.counts.fevals in
-    cond (eqb r.job searchMark) (slopedOf r (quasinewton.withSearch d (linesearch.toldGradientOf (searchFixedOf r) d.line d.search g)) r.model)
-    (slopedOf r q.descent q.model)
+    let q = quasinewton.settled_of (gradient_fixed_of r) (quasinewton.told_gradient_of (gradient_fixed_of r) d g) r.model r.counts.fevals in
+    cond (eqb r.job search_mark) (sloped_of r (quasinewton.with_search d (linesearch.told_gradient_of (search_fixed_of r) d.line d.search g)) r.model)
+    (sloped_of r q.descent q.model)
 
 -- the reply to that value, and to that gradient
-unfoldable pub takenOf : Record → Float → Reply × Record
-takenOf r v = standingOf (steppedOf r v)
+unfoldable pub taken_of : Record → Float → Reply × Record
+taken_of r v = standing_of (stepped_of r v)
 
-unfoldable pub takenGradientOf : Record → List Float → Reply × Record
-takenGradientOf r g = standingOf (gradedOf r g)
+unfoldable pub taken_gradient_of : Record → List Float → Reply × Record
+taken_gradient_of r g = standing_of (graded_of r g)
 
 -- over a record in range: the repeat rule, then 15, 16, 17, else the answer is accepted
-unfoldable pub heardOf : Record → ℕ → ℕ → List Float → Reply × Record
-heardOf r number kind words =
-    cond (repeatsOf r.accepted number) (standingOf r)
-    (cond (overOf r) (refusedOf r 15 0)
-    (cond (not (eqb number (r.accepted + 1))) (refusedOf r 16 0)
-    (cond (not (suitsOf r kind (length words))) (refusedOf r 17 0)
-    (cond (gradientDueOf r) (takenGradientOf r (fromSliceOf words r.n)) (takenOf r (get_or words 0 nan))))))
+unfoldable pub heard_of : Record → ℕ → ℕ → List Float → Reply × Record
+heard_of r number kind words =
+    cond (repeats_of r.accepted number) (standing_of r)
+    (cond (over_of r) (refused_of r 15 0)
+    (cond (not (eqb number (r.accepted + 1))) (refused_of r 16 0)
+    (cond (not (suits_of r kind (length words))) (refused_of r 17 0)
+    (cond (gradient_due_of r) (taken_gradient_of r (from_slice_of words r.n)) (taken_of r (get_or words 0 nan))))))
 
 -- 01: "an answer 1, then the repeat rule, then 15 to 17"
-unfoldable pub answerOf : Record → ℕ → ℕ → List Float → Reply × Record
-answerOf r number kind words = cond (validOf r) (heardOf r number kind words) (refusedOf r 1 0)
+unfoldable pub answer_of : Record → ℕ → ℕ → List Float → Reply × Record
+answer_of r number kind words = cond (valid_of r) (heard_of r number kind words) (refused_of r 1 0)

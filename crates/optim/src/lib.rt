@@ -3,10 +3,10 @@
 #![tactic(auto)]
 
 ghost use Rattle.std.specs.Prelude.{◌≡◌};
-ghost use Rattle.optim_record.specs.Record.{outcomeOf};
-ghost use Rattle.optim_reply.specs.Spoken.{replyWith, spokenBy, spokenIn};
-ghost use Rattle.optim.specs.Answer.{answerOf};
-ghost use Rattle.optim.specs.Parts.{Speaks, repliedOf};
+ghost use Rattle.optim_record.specs.Record.{outcome_of};
+ghost use Rattle.optim_reply.specs.Spoken.{reply_with, spoken_by, spoken_in};
+ghost use Rattle.optim.specs.Answer.{answer_of};
+ghost use Rattle.optim.specs.Parts.{Speaks, replied_of};
 
 pub use optim_record::{Answered, Record, blank, valid};
 use optim_reply::Spoken;
@@ -16,7 +16,7 @@ use protocol::{SEARCH, SIMPLEX};
 // What is said of a record, after an answer that met the refusal `why`.
 fn replied(r: Record, why: u64) -> Spoken
     requires { Speaks r why }
-    ensures { (replyWith result r ≡ repliedOf r why) × (result ≡ spokenBy (repliedOf r why)) }
+    ensures { (reply_with result r ≡ replied_of r why) × (result ≡ spoken_by (replied_of r why)) }
 {
     if why != 0 {
         return optim_reply::refused(why, 0);
@@ -28,8 +28,8 @@ fn replied(r: Record, why: u64) -> Spoken
 // answer returns the very record that was passed. One record is kept and parts of it are replaced, so that
 // it is copied no more than its passing asks for; a gradient fit that still asks has no use for its model.
 pub fn answer(r: Record, number: u64, kind: u8, words: &[f64]) -> Answered
-    ensures outcome { outcomeOf result ≡ answerOf r number kind words.now }
-    ensures spoken { spokenIn result ≡ spokenBy (answerOf r number kind words.now) }
+    ensures outcome { outcome_of result ≡ answer_of r number kind words.now }
+    ensures spoken { spoken_in result ≡ spoken_by (answer_of r number kind words.now) }
 {
     let mut q = r;
     let why = optim_rules::meets(q, number, kind, words.len());

@@ -1,43 +1,43 @@
 -- The first records of starts, and the refusals that a start meets before its points are looked at. Definitions only.
 use Rattle.std.specs.Prelude.{ℕ, ◌+◌, ◌*◌, Bool, true, false, not, cond, List, ltb, eqb, length, replicate, Float}
 use Rattle.std.specs.Float.Ieee.{lt}
-use Rattle.float.specs.Binary64.{plusZero}
-use Rattle.float.specs.Values.{toleranceOf, positiveOf}
-use Rattle.vector.specs.Points.{fromSliceOf}
+use Rattle.float.specs.Binary64.{plus_zero}
+use Rattle.float.specs.Values.{tolerance_of, positive_of}
+use Rattle.vector.specs.Points.{from_slice_of}
 use Rattle.protocol.specs.declared.Allowance.{Allowance}
 use Rattle.protocol.specs.declared.Allowances.{Allowances}
 use Rattle.protocol.specs.declared.SimplexOptions.{SimplexOptions}
 use Rattle.protocol.specs.declared.WolfeOptions.{WolfeOptions}
 use Rattle.protocol.specs.declared.GradientOptions.{GradientOptions}
 use Rattle.protocol.specs.declared.Refusal.{Refusal}
-use Rattle.protocol.specs.Protocol.{refusal, noRefusal, simplexMark, bfgsMark, lbfgsMark, searchMark, differencesMark}
-use Rattle.objective.specs.Step.{begunOf}
+use Rattle.protocol.specs.Protocol.{refusal, no_refusal, simplex_mark, bfgs_mark, lbfgs_mark, search_mark, differences_mark}
+use Rattle.objective.specs.Step.{begun_of}
 use Rattle.linesearch_trials.specs.declared.Line.{Line}
-use Rattle.linesearch_trials.specs.Start.{optionsRefusalOf, countsRefusalOf}
+use Rattle.linesearch_trials.specs.Start.{options_refusal_of, counts_refusal_of}
 use Rattle.linesearch_trials.specs.Trials.{one}
 use Rattle.linesearch.specs.Step as linesearch
-use Rattle.quasinewton_model.specs.Step.{blankOf as blankModel, newModelOf}
+use Rattle.quasinewton_model.specs.Step.{blank_of as blankModel, new_model_of}
 use Rattle.quasinewton_record.specs.declared.Descent.{Descent}
-use Rattle.quasinewton.specs.Step.{searching, idleOf as idleDescent, startOf as quasinewtonStart}
-use Rattle.neldermead.specs.Step.{startOf}
+use Rattle.quasinewton.specs.Step.{searching, idle_of as idleDescent, start_of as quasinewtonStart}
+use Rattle.neldermead.specs.Step.{start_of}
 use Rattle.optim_record.specs.declared.Limits.{Limits}
 use Rattle.optim_record.specs.declared.Record.{Record}
-use Rattle.optim_record.specs.Record.{idleOf, noOptions, wolfeOptionsOf, noGradientOptions, mostAllowed, mostRestarts, mostEvals, noLimit}
+use Rattle.optim_record.specs.Record.{idle_of, no_options, wolfe_options_of, no_gradient_options, most_allowed, most_restarts, most_evals, no_limit}
 
 -- ---- differences
 
-unfoldable pub begunRecordOf : List Float → Record
-begunRecordOf x =
+unfoldable pub begun_record_of : List Float → Record
+begun_record_of x =
     record {
       accepted = 0;
-      job = differencesMark;
+      job = differences_mark;
       n = length x;
       counts = record { fevals = 0; gevals = 0 };
       limits = record { iter = 0; fevals = 0 };
-      options = noOptions;
-      gradient = noGradientOptions;
-      diff = begunOf (fromSliceOf x (length x));
-      simplex = idleOf;
+      options = no_options;
+      gradient = no_gradient_options;
+      diff = begun_of (from_slice_of x (length x));
+      simplex = idle_of;
       descent = idleDescent;
       model = blankModel;
     }
@@ -45,46 +45,46 @@ begunRecordOf x =
 -- ---- simplex
 
 -- 2: "an allowance above 1,000,000"
-unfoldable pub excessOf : Allowance → Bool
-excessOf a = cond a.given (ltb mostAllowed a.count) false
+unfoldable pub excess_of : Allowance → Bool
+excess_of a = cond a.given (ltb most_allowed a.count) false
 
 -- 2: "A lent list .. is above 16, an allowance above 1,000,000, .. or restarts above 100."
-unfoldable pub pastLimitsOf : ℕ → SimplexOptions → Allowances → Bool
-unfolding excessOf
-pastLimitsOf count o a = cond (ltb 16 count) true (cond (excessOf a.iter) true (cond (excessOf a.fevals) true (ltb mostRestarts o.restarts)))
+unfoldable pub past_limits_of : ℕ → SimplexOptions → Allowances → Bool
+unfolding excess_of
+past_limits_of count o a = cond (ltb 16 count) true (cond (excess_of a.iter) true (cond (excess_of a.fevals) true (ltb most_restarts o.restarts)))
 
 -- which refusal a start of so many coordinates meets, before the point is looked at; 0 for none
-unfoldable pub simplexRefusalOf : ℕ → SimplexOptions → Allowances → Refusal
-unfolding pastLimitsOf
-simplexRefusalOf count o a =
-    cond (pastLimitsOf count o a) (refusal 2 0)
-    (cond (not (toleranceOf o.xtol)) (refusal 4 1)
-    (cond (not (toleranceOf o.ftol)) (refusal 4 2)
-    (cond (not (positiveOf o.step)) (refusal 8 0)
-    (cond (eqb count 0) (refusal 9 0) noRefusal))))
+unfoldable pub simplex_refusal_of : ℕ → SimplexOptions → Allowances → Refusal
+unfolding past_limits_of
+simplex_refusal_of count o a =
+    cond (past_limits_of count o a) (refusal 2 0)
+    (cond (not (tolerance_of o.xtol)) (refusal 4 1)
+    (cond (not (tolerance_of o.ftol)) (refusal 4 2)
+    (cond (not (positive_of o.step)) (refusal 8 0)
+    (cond (eqb count 0) (refusal 9 0) no_refusal))))
 
 -- "absent, each is 200·n·(1+restarts)"
-unfoldable pub limitOf : Allowance → ℕ → ℕ
-limitOf a default = cond a.given a.count default
+unfoldable pub limit_of : Allowance → ℕ → ℕ
+limit_of a default = cond a.given a.count default
 
-unfoldable pub simplexLimitsOf : ℕ → SimplexOptions → Allowances → Limits
-unfolding limitOf
-simplexLimitsOf n o a = let default = 200 * n * (1 + o.restarts) in record { iter = limitOf a.iter default; fevals = limitOf a.fevals default }
+unfoldable pub simplex_limits_of : ℕ → SimplexOptions → Allowances → Limits
+unfolding limit_of
+simplex_limits_of n o a = let default = 200 * n * (1 + o.restarts) in record { iter = limit_of a.iter default; fevals = limit_of a.fevals default }
 
 -- the first record of a fit of n coordinates at a point of sixteen
-unfoldable pub simplexRecordOf : List Float → ℕ → SimplexOptions → Allowances → Record
-unfolding simplexLimitsOf
-simplexRecordOf point n o a =
+unfoldable pub simplex_record_of : List Float → ℕ → SimplexOptions → Allowances → Record
+unfolding simplex_limits_of
+simplex_record_of point n o a =
     record {
       accepted = 0;
-      job = simplexMark;
+      job = simplex_mark;
       n = n;
       counts = record { fevals = 0; gevals = 0 };
-      limits = simplexLimitsOf n o a;
+      limits = simplex_limits_of n o a;
       options = o;
-      gradient = noGradientOptions;
-      diff = begunOf (replicate 16 plusZero);
-      simplex = startOf point;
+      gradient = no_gradient_options;
+      diff = begun_of (replicate 16 plus_zero);
+      simplex = start_of point;
       descent = idleDescent;
       model = blankModel;
     }
@@ -92,19 +92,19 @@ simplexRecordOf point n o a =
 -- ---- search
 
 -- 2: "A lent list .. is above 16, .. max_evals above 1,000"
-unfoldable pub searchPastLimitsOf : ℕ → ℕ → ℕ → WolfeOptions → Bool
-searchPastLimitsOf n dcount gcount o = cond (ltb 16 n) true (cond (ltb 16 dcount) true (cond (ltb 16 gcount) true (ltb mostEvals o.evals)))
+unfoldable pub search_past_limits_of : ℕ → ℕ → ℕ → WolfeOptions → Bool
+search_past_limits_of n dcount gcount o = cond (ltb 16 n) true (cond (ltb 16 dcount) true (cond (ltb 16 gcount) true (ltb most_evals o.evals)))
 
 -- 2, then 5, 6, 7, then 9, 10, 11: before the points are looked at
-unfoldable pub searchRefusalOf : ℕ → ℕ → ℕ → WolfeOptions → Refusal
-unfolding searchPastLimitsOf
-searchRefusalOf n dcount gcount o =
-    cond (searchPastLimitsOf n dcount gcount o) (refusal 2 0)
-    (cond (not (eqb (optionsRefusalOf o).number 0)) (optionsRefusalOf o) (countsRefusalOf n dcount gcount))
+unfoldable pub search_refusal_of : ℕ → ℕ → ℕ → WolfeOptions → Refusal
+unfolding search_past_limits_of
+search_refusal_of n dcount gcount o =
+    cond (search_past_limits_of n dcount gcount o) (refusal 2 0)
+    (cond (not (eqb (options_refusal_of o).number 0)) (options_refusal_of o) (counts_refusal_of n dcount gcount))
 
 -- a search along the line, from its first trial on
-unfoldable pub begunSearchOf : Line → ℕ → Float → WolfeOptions → Bool → Descent
-begunSearchOf l n step o gradients =
+unfoldable pub begun_search_of : Line → ℕ → Float → WolfeOptions → Bool → Descent
+begun_search_of l n step o gradients =
     record {
       phase = searching;
       number = 0;
@@ -112,85 +112,85 @@ begunSearchOf l n step o gradients =
       first = false;
       rounds = 0;
       line = l;
-      search = linesearch.begunOf (record { n = n; gradients = gradients; options = o }) l step;
-      diff = begunOf (replicate 16 plusZero);
+      search = linesearch.begun_of (record { n = n; gradients = gradients; options = o }) l step;
+      diff = begun_of (replicate 16 plus_zero);
     }
 
-unfoldable pub searchRecordOf : Line → ℕ → Float → WolfeOptions → Bool → Record
-unfolding begunSearchOf
-searchRecordOf l n step o gradients =
+unfoldable pub search_record_of : Line → ℕ → Float → WolfeOptions → Bool → Record
+unfolding begun_search_of
+search_record_of l n step o gradients =
     record {
       accepted = 0;
-      job = searchMark;
+      job = search_mark;
       n = n;
       counts = record { fevals = 0; gevals = 0 };
       limits = record { iter = 0; fevals = 0 };
-      options = noOptions;
-      gradient = wolfeOptionsOf o gradients;
-      diff = begunOf (replicate 16 plusZero);
-      simplex = idleOf;
-      descent = begunSearchOf l n step o gradients;
+      options = no_options;
+      gradient = wolfe_options_of o gradients;
+      diff = begun_of (replicate 16 plus_zero);
+      simplex = idle_of;
+      descent = begun_search_of l n step o gradients;
       model = blankModel;
     }
 
 -- ---- bfgs and, where `limited`, lbfgs
 
 -- 2: "A lent list or memory is above 16, an allowance above 1,000,000, max_evals above 1,000"; bfgs ignores memory
-unfoldable pub gradientPastLimitsOf : ℕ → GradientOptions → Allowances → Bool → Bool
-unfolding excessOf
-gradientPastLimitsOf count o a limited =
+unfoldable pub gradient_past_limits_of : ℕ → GradientOptions → Allowances → Bool → Bool
+unfolding excess_of
+gradient_past_limits_of count o a limited =
     cond (ltb 16 count) true
-    (cond (excessOf a.iter) true
-    (cond (excessOf a.fevals) true
-    (cond (ltb mostEvals o.wolfe.evals) true
+    (cond (excess_of a.iter) true
+    (cond (excess_of a.fevals) true
+    (cond (ltb most_evals o.wolfe.evals) true
     (cond limited (ltb 16 o.memory) false))))
 
 -- "0 < c1 < c2 < 1"
-unfoldable pub orderedOf : WolfeOptions → Bool
-orderedOf w = cond (not (lt plusZero w.c1)) false (cond (not (lt w.c1 w.c2)) false (lt w.c2 one))
+unfoldable pub ordered_of : WolfeOptions → Bool
+ordered_of w = cond (not (lt plus_zero w.c1)) false (cond (not (lt w.c1 w.c2)) false (lt w.c2 one))
 
 -- "An lbfgs memory is 0"
-unfoldable pub noMemoryOf : GradientOptions → Bool → Bool
-noMemoryOf o limited = cond limited (eqb o.memory 0) false
+unfoldable pub no_memory_of : GradientOptions → Bool → Bool
+no_memory_of o limited = cond limited (eqb o.memory 0) false
 
-unfoldable pub gradientRefusalOf : ℕ → GradientOptions → Allowances → Bool → Refusal
-unfolding gradientPastLimitsOf
-gradientRefusalOf count o a limited =
-    cond (gradientPastLimitsOf count o a limited) (refusal 2 0)
-    (cond (noMemoryOf o limited) (refusal 3 0)
-    (cond (not (toleranceOf o.gradtol)) (refusal 4 1)
-    (cond (not (toleranceOf o.ftol)) (refusal 4 2)
-    (cond (not (toleranceOf o.xtol)) (refusal 4 3)
-    (cond (not (orderedOf o.wolfe)) (refusal 5 1)
-    (cond (eqb count 0) (refusal 9 0) noRefusal))))))
+unfoldable pub gradient_refusal_of : ℕ → GradientOptions → Allowances → Bool → Refusal
+unfolding gradient_past_limits_of
+gradient_refusal_of count o a limited =
+    cond (gradient_past_limits_of count o a limited) (refusal 2 0)
+    (cond (no_memory_of o limited) (refusal 3 0)
+    (cond (not (tolerance_of o.gradtol)) (refusal 4 1)
+    (cond (not (tolerance_of o.ftol)) (refusal 4 2)
+    (cond (not (tolerance_of o.xtol)) (refusal 4 3)
+    (cond (not (ordered_of o.wolfe)) (refusal 5 1)
+    (cond (eqb count 0) (refusal 9 0) no_refusal))))))
 
 -- "max_iter (absent: 200·n), max_fevals (absent: none)"
-unfoldable pub gradientLimitsOf : ℕ → Allowances → Limits
-unfolding limitOf
-gradientLimitsOf n a = record { iter = limitOf a.iter (200 * n); fevals = limitOf a.fevals noLimit }
+unfoldable pub gradient_limits_of : ℕ → Allowances → Limits
+unfolding limit_of
+gradient_limits_of n a = record { iter = limit_of a.iter (200 * n); fevals = limit_of a.fevals no_limit }
 
 -- "A bfgs record stores memory 0, whatever was given."
-unfoldable pub keptOptionsOf : GradientOptions → Bool → GradientOptions
-keptOptionsOf o limited =
+unfoldable pub kept_options_of : GradientOptions → Bool → GradientOptions
+kept_options_of o limited =
     cond limited o
     (record { gradtol = o.gradtol; ftol = o.ftol; xtol = o.xtol; wolfe = o.wolfe; memory = 0; gradients = o.gradients })
 
-unfoldable pub gradientMarkOf : Bool → ℕ
-gradientMarkOf limited = cond limited lbfgsMark bfgsMark
+unfoldable pub gradient_mark_of : Bool → ℕ
+gradient_mark_of limited = cond limited lbfgs_mark bfgs_mark
 
-unfoldable pub gradientRecordOf : List Float → ℕ → GradientOptions → Allowances → Bool → Record
-unfolding gradientLimitsOf keptOptionsOf
-gradientRecordOf point n o a limited =
+unfoldable pub gradient_record_of : List Float → ℕ → GradientOptions → Allowances → Bool → Record
+unfolding gradient_limits_of kept_options_of
+gradient_record_of point n o a limited =
     record {
       accepted = 0;
-      job = gradientMarkOf limited;
+      job = gradient_mark_of limited;
       n = n;
       counts = record { fevals = 0; gevals = 0 };
-      limits = gradientLimitsOf n a;
-      options = noOptions;
-      gradient = keptOptionsOf o limited;
-      diff = begunOf (replicate 16 plusZero);
-      simplex = idleOf;
+      limits = gradient_limits_of n a;
+      options = no_options;
+      gradient = kept_options_of o limited;
+      diff = begun_of (replicate 16 plus_zero);
+      simplex = idle_of;
       descent = quasinewtonStart point;
-      model = newModelOf limited (keptOptionsOf o limited).memory n;
+      model = new_model_of limited (kept_options_of o limited).memory n;
     }

@@ -1,13 +1,13 @@
 // The starts of gradient fits, bfgs and, where `limited`, lbfgs.
 ghost use Rattle.std.specs.Prelude.{◌≡◌, ◌≤◌};
-ghost use Rattle.optim_first_record.specs.Starts.{gradientPastLimitsOf, orderedOf, noMemoryOf, gradientRefusalOf, gradientLimitsOf, keptOptionsOf, gradientMarkOf, gradientRecordOf};
+ghost use Rattle.optim_first_record.specs.Starts.{gradient_past_limits_of, ordered_of, no_memory_of, gradient_refusal_of, gradient_limits_of, kept_options_of, gradient_mark_of, gradient_record_of};
 
 use optim_record::{Counts, Limits, MOST_EVALS, NO_LIMIT, Record};
 use protocol::{Allowances, BFGS, GradientOptions, LBFGS, Refusal, WolfeOptions};
 
 // Refusal 2 of a gradient fit; bfgs ignores memory.
 fn gradient_past_limits(count: usize, o: GradientOptions, a: Allowances, limited: bool) -> bool
-    ensures { result ≡ gradientPastLimitsOf count o a limited }
+    ensures { result ≡ gradient_past_limits_of count o a limited }
 {
     let w = o.wolfe;
     if 16 < count {
@@ -30,7 +30,7 @@ fn gradient_past_limits(count: usize, o: GradientOptions, a: Allowances, limited
 
 // Whether 0 < c1 < c2 < 1.
 fn ordered(w: WolfeOptions) -> bool
-    ensures { result ≡ orderedOf w }
+    ensures { result ≡ ordered_of w }
 {
     if !(0.0 < w.c1) {
         return false;
@@ -43,7 +43,7 @@ fn ordered(w: WolfeOptions) -> bool
 
 // A memory of none, for lbfgs.
 fn no_memory(o: GradientOptions, limited: bool) -> bool
-    ensures { result ≡ noMemoryOf o limited }
+    ensures { result ≡ no_memory_of o limited }
 {
     if limited {
         return o.memory == 0;
@@ -53,7 +53,7 @@ fn no_memory(o: GradientOptions, limited: bool) -> bool
 
 // The refusal that a start of a gradient fit meets, before its point is looked at.
 pub fn gradient_refusal(count: usize, o: GradientOptions, a: Allowances, limited: bool) -> Refusal
-    ensures { result ≡ gradientRefusalOf count o a limited }
+    ensures { result ≡ gradient_refusal_of count o a limited }
 {
     let w = o.wolfe;
     if gradient_past_limits(count, o, a, limited) {
@@ -83,7 +83,7 @@ pub fn gradient_refusal(count: usize, o: GradientOptions, a: Allowances, limited
 // The allowances of a gradient fit; absent, max_iter is 200 n and max_fevals the largest u64.
 fn gradient_limits(n: usize, a: Allowances) -> Limits
     requires { n ≤ 16 }
-    ensures { result ≡ gradientLimitsOf n a }
+    ensures { result ≡ gradient_limits_of n a }
 {
     let iter = crate::limit(a.iter, 200 * (n as u64));
     let fevals = crate::limit(a.fevals, NO_LIMIT);
@@ -92,7 +92,7 @@ fn gradient_limits(n: usize, a: Allowances) -> Limits
 
 // The options that a gradient fit's record keeps: bfgs has no memory.
 fn kept_options(o: GradientOptions, limited: bool) -> GradientOptions
-    ensures { result ≡ keptOptionsOf o limited }
+    ensures { result ≡ kept_options_of o limited }
 {
     if limited {
         return o;
@@ -104,7 +104,7 @@ fn kept_options(o: GradientOptions, limited: bool) -> GradientOptions
 
 // The mark of lbfgs or of bfgs.
 fn gradient_mark(limited: bool) -> u64
-    ensures { result ≡ gradientMarkOf limited }
+    ensures { result ≡ gradient_mark_of limited }
 {
     if limited {
         return LBFGS;
@@ -121,7 +121,7 @@ pub fn gradient_record(
     limited: bool,
 ) -> Record
     requires { n ≤ 16 }
-    ensures { result ≡ gradientRecordOf point n o a limited }
+    ensures { result ≡ gradient_record_of point n o a limited }
 {
     let limits = gradient_limits(n, a);
     let gradient = kept_options(o, limited);

@@ -5,7 +5,7 @@ mod gradients;
 
 ghost use Rattle.std.specs.Prelude.{◌≡◌, ◌≤◌, length};
 ghost use Rattle.protocol.specs.Protocol.{refusal};
-ghost use Rattle.optim_first_record.specs.Starts.{begunRecordOf, excessOf, pastLimitsOf, simplexRefusalOf, limitOf, simplexLimitsOf, simplexRecordOf, searchPastLimitsOf, searchRefusalOf, begunSearchOf, searchRecordOf};
+ghost use Rattle.optim_first_record.specs.Starts.{begun_record_of, excess_of, past_limits_of, simplex_refusal_of, limit_of, simplex_limits_of, simplex_record_of, search_past_limits_of, search_refusal_of, begun_search_of, search_record_of};
 
 pub use gradients::{gradient_record, gradient_refusal};
 use linesearch::Line;
@@ -19,7 +19,7 @@ use quasinewton_record::SEARCHING;
 // The first record of differences at the point that x lists.
 pub fn begun_record(x: &[f64]) -> Record
     requires { length x.now ≤ 16 }
-    ensures { result ≡ begunRecordOf x.now }
+    ensures { result ≡ begun_record_of x.now }
 {
     let n = x.len();
     let point = vector::from_slice(x, n);
@@ -49,7 +49,7 @@ pub fn begun_record(x: &[f64]) -> Record
 
 // An allowance above 1,000,000.
 fn excess(a: Allowance) -> bool
-    ensures { result ≡ excessOf a }
+    ensures { result ≡ excess_of a }
 {
     if a.given {
         return MOST_ALLOWED < a.count;
@@ -59,7 +59,7 @@ fn excess(a: Allowance) -> bool
 
 // Refusal 2.
 fn past_limits(count: usize, o: SimplexOptions, a: Allowances) -> bool
-    ensures { result ≡ pastLimitsOf count o a }
+    ensures { result ≡ past_limits_of count o a }
 {
     if 16 < count {
         return true;
@@ -81,7 +81,7 @@ fn refuse(number: u64, detail: u64) -> Refusal
 
 // The refusal that a start of so many coordinates meets, before its point is looked at.
 pub fn simplex_refusal(count: usize, o: SimplexOptions, a: Allowances) -> Refusal
-    ensures { result ≡ simplexRefusalOf count o a }
+    ensures { result ≡ simplex_refusal_of count o a }
 {
     if past_limits(count, o, a) {
         return refuse(2, 0);
@@ -103,7 +103,7 @@ pub fn simplex_refusal(count: usize, o: SimplexOptions, a: Allowances) -> Refusa
 
 // An allowance, or its default where it is absent.
 fn limit(a: Allowance, default: u64) -> u64
-    ensures { result ≡ limitOf a default }
+    ensures { result ≡ limit_of a default }
 {
     if a.given {
         return a.count;
@@ -115,7 +115,7 @@ fn limit(a: Allowance, default: u64) -> u64
 fn simplex_limits(n: usize, o: SimplexOptions, a: Allowances) -> Limits
     requires n_bound { n ≤ 16 }
     requires restarts_bound { o.restarts ≤ 100 }
-    ensures { result ≡ simplexLimitsOf n o a }
+    ensures { result ≡ simplex_limits_of n o a }
 {
     let default = 200 * (n as u64) * (1 + o.restarts);
     let iter = limit(a.iter, default);
@@ -127,7 +127,7 @@ fn simplex_limits(n: usize, o: SimplexOptions, a: Allowances) -> Limits
 pub fn simplex_record(point: [f64; 16], n: usize, o: SimplexOptions, a: Allowances) -> Record
     requires n_bound { n ≤ 16 }
     requires restarts_bound { o.restarts ≤ 100 }
-    ensures { result ≡ simplexRecordOf point n o a }
+    ensures { result ≡ simplex_record_of point n o a }
 {
     let both = simplex_limits(n, o, a);
     let simplex = neldermead::start(point);
@@ -155,7 +155,7 @@ pub fn simplex_record(point: [f64; 16], n: usize, o: SimplexOptions, a: Allowanc
 
 // Refusal 2 of a search.
 fn search_past_limits(n: usize, dcount: usize, gcount: usize, o: WolfeOptions) -> bool
-    ensures { result ≡ searchPastLimitsOf n dcount gcount o }
+    ensures { result ≡ search_past_limits_of n dcount gcount o }
 {
     if 16 < n {
         return true;
@@ -171,7 +171,7 @@ fn search_past_limits(n: usize, dcount: usize, gcount: usize, o: WolfeOptions) -
 
 // The refusal that a search from a point of n coordinates meets, before its points are looked at.
 pub fn search_refusal(n: usize, dcount: usize, gcount: usize, o: WolfeOptions) -> Refusal
-    ensures { result ≡ searchRefusalOf n dcount gcount o }
+    ensures { result ≡ search_refusal_of n dcount gcount o }
 {
     if search_past_limits(n, dcount, gcount, o) {
         return refuse(2, 0);
@@ -185,7 +185,7 @@ pub fn search_refusal(n: usize, dcount: usize, gcount: usize, o: WolfeOptions) -
 
 // A search along the line, from its first trial on.
 fn begun_search(line: Line, n: usize, step: f64, o: WolfeOptions, gradients: bool) -> Descent
-    ensures { result ≡ begunSearchOf line n step o gradients }
+    ensures { result ≡ begun_search_of line n step o gradients }
 {
     let fixed = linesearch::Fixed {
         n,
@@ -208,7 +208,7 @@ fn begun_search(line: Line, n: usize, step: f64, o: WolfeOptions, gradients: boo
 
 // The first record of a search along a line of n coordinates.
 pub fn search_record(line: Line, n: usize, step: f64, o: WolfeOptions, gradients: bool) -> Record
-    ensures { result ≡ searchRecordOf line n step o gradients }
+    ensures { result ≡ search_record_of line n step o gradients }
 {
     let descent = begun_search(line, n, step, o, gradients);
     let model = quasinewton_model::blank();

@@ -8,17 +8,17 @@ use Rattle.protocol.specs.Claim.{Claim}
 use Rattle.protocol.specs.Rounds.{Rounds, engine}
 use Rattle.protocol.specs.Counts.{Counted}
 use Rattle.protocol.specs.Fits.{fits}
-use Rattle.neldermead_theory.specs.Algorithm.{nelderMead}
+use Rattle.neldermead_theory.specs.Algorithm.{nelder_mead}
 use Rattle.neldermead_theory.specs.Counts.{SimplexCounts}
-use Rattle.quasinewton_theory.specs.Algorithm.{quasiNewton}
+use Rattle.quasinewton_theory.specs.Algorithm.{quasi_newton}
 use Rattle.quasinewton_theory.specs.Counts.{GradientCounts}
 use Rattle.optim_fits_theory.specs.Refusals.{RefusedBy, EndedBy}
 
-abbrev pub allFits : Rounds Job
-allFits = fits nelderMead quasiNewton
+abbrev pub all_fits : Rounds Job
+all_fits = fits nelder_mead quasi_newton
 
 abbrev pub reference : Engine
-reference = engine allFits
+reference = engine all_fits
 
 -- no reply to a fit that was started is refused with k, whatever is told
 abbrev pub NeverMet : ℕ → Type 0
@@ -28,11 +28,11 @@ pub record FitsClaim : Type 0 where
   -- the mission's 3
   pub mission : Claim reference
   -- M+(R+1)(n+1) and (R+1)(n+1)+I(n+2)
-  pub simplex-questions : SimplexCounts quasiNewton
+  pub simplex_questions : SimplexCounts quasi_newton
   -- 1+I·E of each kind, and (1+2n)(1+I·E)
-  pub gradient-questions : GradientCounts nelderMead
-  pub counted : Counted allFits
-  pub refusals : RefusedBy allFits EndedBy
+  pub gradient_questions : GradientCounts nelder_mead
+  pub counted : Counted all_fits
+  pub refusals : RefusedBy all_fits EndedBy
   -- "no fit that was started meets any but 6, 7 and 12 detail 1" of what a search tests
-  pub never-13 : NeverMet 13
-  pub never-14 : NeverMet 14
+  pub never_13 : NeverMet 13
+  pub never_14 : NeverMet 14

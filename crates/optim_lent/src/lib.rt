@@ -4,17 +4,17 @@
 #![tactic(auto)]
 
 ghost use Rattle.std.specs.Prelude.{◌≡◌, drop};
-ghost use Rattle.protocol.specs.Protocol.{replyOf};
+ghost use Rattle.protocol.specs.Protocol.{reply_of};
 ghost use Rattle.optim_lists.specs.Layout as place;
-ghost use Rattle.optim_lists.specs.Lists.{lists, mark, flagsOnly};
-ghost use Rattle.optim_lists.specs.Answered.{answeredOf, pointAfter, slopesAfter};
+ghost use Rattle.optim_lists.specs.Lists.{lists, mark, flags_only};
+ghost use Rattle.optim_lists.specs.Answered.{answered_of, point_after, slopes_after};
 
 pub use optim_lent_start::{bfgs, differences, lbfgs, search, simplex};
 use protocol::Said;
 
 // Whether every flag is 0 or 1.
 fn formed(m: [u64; 36]) -> bool
-    ensures { result ≡ flagsOnly (drop place.flags m) }
+    ensures { result ≡ flags_only (drop place.flags m) }
 {
     let mut i: usize = 25;
     while i < 36 {
@@ -58,9 +58,9 @@ pub fn answer(
     point: &mut [f64; 16],
     slopes: &mut [f64; 16],
 ) -> Said
-    ensures outcome { (replyOf result (mark m.new place.n) point.new slopes.new, lists m.new w.new dx.new dg.new sx.new best.new centroid.new reflected.new points.new values.new lx.new lg.new ld.new tx.new tg.new ex.new eg.new ix.new ig.new h.new steps.new changes.new factors.new) ≡ answeredOf (lists m.old w.old dx.old dg.old sx.old best.old centroid.old reflected.old points.old values.old lx.old lg.old ld.old tx.old tg.old ex.old eg.old ix.old ig.old h.old steps.old changes.old factors.old) number kind words.now }
-    ensures said_point { point.new ≡ pointAfter (answeredOf (lists m.old w.old dx.old dg.old sx.old best.old centroid.old reflected.old points.old values.old lx.old lg.old ld.old tx.old tg.old ex.old eg.old ix.old ig.old h.old steps.old changes.old factors.old) number kind words.now) point.old }
-    ensures said_slopes { slopes.new ≡ slopesAfter (answeredOf (lists m.old w.old dx.old dg.old sx.old best.old centroid.old reflected.old points.old values.old lx.old lg.old ld.old tx.old tg.old ex.old eg.old ix.old ig.old h.old steps.old changes.old factors.old) number kind words.now) slopes.old }
+    ensures outcome { (reply_of result (mark m.new place.n) point.new slopes.new, lists m.new w.new dx.new dg.new sx.new best.new centroid.new reflected.new points.new values.new lx.new lg.new ld.new tx.new tg.new ex.new eg.new ix.new ig.new h.new steps.new changes.new factors.new) ≡ answered_of (lists m.old w.old dx.old dg.old sx.old best.old centroid.old reflected.old points.old values.old lx.old lg.old ld.old tx.old tg.old ex.old eg.old ix.old ig.old h.old steps.old changes.old factors.old) number kind words.now }
+    ensures said_point { point.new ≡ point_after (answered_of (lists m.old w.old dx.old dg.old sx.old best.old centroid.old reflected.old points.old values.old lx.old lg.old ld.old tx.old tg.old ex.old eg.old ix.old ig.old h.old steps.old changes.old factors.old) number kind words.now) point.old }
+    ensures said_slopes { slopes.new ≡ slopes_after (answered_of (lists m.old w.old dx.old dg.old sx.old best.old centroid.old reflected.old points.old values.old lx.old lg.old ld.old tx.old tg.old ex.old eg.old ix.old ig.old h.old steps.old changes.old factors.old) number kind words.now) slopes.old }
 {
     let flags = *m;
     if !formed(flags) {

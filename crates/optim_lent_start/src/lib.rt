@@ -5,11 +5,11 @@
 mod reply;
 
 ghost use Rattle.std.specs.Prelude.{◌≡◌};
-ghost use Rattle.protocol.specs.Protocol.{replyOf};
-ghost use Rattle.optim_start.specs.Start.{differencesOf, simplexOf, searchOf, bfgsOf, lbfgsOf};
+ghost use Rattle.protocol.specs.Protocol.{reply_of};
+ghost use Rattle.optim_start.specs.Start.{differences_of, simplex_of, search_of, bfgs_of, lbfgs_of};
 ghost use Rattle.optim_lists.specs.Layout as place;
 ghost use Rattle.optim_lists.specs.Lists.{lists, mark};
-ghost use Rattle.optim_lists.specs.Answered.{startedOf, pointAfter, slopesAfter};
+ghost use Rattle.optim_lists.specs.Answered.{started_of, point_after, slopes_after};
 
 use protocol::{Allowances, GradientOptions, Said, SimplexOptions, WolfeOptions};
 pub use reply::speak;
@@ -45,9 +45,9 @@ pub fn simplex(
     point: &mut [f64; 16],
     slopes: &mut [f64; 16],
 ) -> Said
-    ensures outcome { (replyOf result (mark m.new place.n) point.new slopes.new, lists m.new w.new dx.new dg.new sx.new best.new centroid.new reflected.new points.new values.new lx.new lg.new ld.new tx.new tg.new ex.new eg.new ix.new ig.new h.new steps.new changes.new factors.new) ≡ startedOf (simplexOf x.now o a) }
-    ensures said_point { point.new ≡ pointAfter (startedOf (simplexOf x.now o a)) point.old }
-    ensures said_slopes { slopes.new ≡ slopesAfter (startedOf (simplexOf x.now o a)) slopes.old }
+    ensures outcome { (reply_of result (mark m.new place.n) point.new slopes.new, lists m.new w.new dx.new dg.new sx.new best.new centroid.new reflected.new points.new values.new lx.new lg.new ld.new tx.new tg.new ex.new eg.new ix.new ig.new h.new steps.new changes.new factors.new) ≡ started_of (simplex_of x.now o a) }
+    ensures said_point { point.new ≡ point_after (started_of (simplex_of x.now o a)) point.old }
+    ensures said_slopes { slopes.new ≡ slopes_after (started_of (simplex_of x.now o a)) slopes.old }
 {
     let begun = optim::simplex(x, o, a);
     reply::opened(
@@ -87,9 +87,9 @@ pub fn bfgs(
     point: &mut [f64; 16],
     slopes: &mut [f64; 16],
 ) -> Said
-    ensures outcome { (replyOf result (mark m.new place.n) point.new slopes.new, lists m.new w.new dx.new dg.new sx.new best.new centroid.new reflected.new points.new values.new lx.new lg.new ld.new tx.new tg.new ex.new eg.new ix.new ig.new h.new steps.new changes.new factors.new) ≡ startedOf (bfgsOf x.now o a) }
-    ensures said_point { point.new ≡ pointAfter (startedOf (bfgsOf x.now o a)) point.old }
-    ensures said_slopes { slopes.new ≡ slopesAfter (startedOf (bfgsOf x.now o a)) slopes.old }
+    ensures outcome { (reply_of result (mark m.new place.n) point.new slopes.new, lists m.new w.new dx.new dg.new sx.new best.new centroid.new reflected.new points.new values.new lx.new lg.new ld.new tx.new tg.new ex.new eg.new ix.new ig.new h.new steps.new changes.new factors.new) ≡ started_of (bfgs_of x.now o a) }
+    ensures said_point { point.new ≡ point_after (started_of (bfgs_of x.now o a)) point.old }
+    ensures said_slopes { slopes.new ≡ slopes_after (started_of (bfgs_of x.now o a)) slopes.old }
 {
     let begun = optim::bfgs(x, o, a);
     reply::opened(
@@ -129,9 +129,9 @@ pub fn lbfgs(
     point: &mut [f64; 16],
     slopes: &mut [f64; 16],
 ) -> Said
-    ensures outcome { (replyOf result (mark m.new place.n) point.new slopes.new, lists m.new w.new dx.new dg.new sx.new best.new centroid.new reflected.new points.new values.new lx.new lg.new ld.new tx.new tg.new ex.new eg.new ix.new ig.new h.new steps.new changes.new factors.new) ≡ startedOf (lbfgsOf x.now o a) }
-    ensures said_point { point.new ≡ pointAfter (startedOf (lbfgsOf x.now o a)) point.old }
-    ensures said_slopes { slopes.new ≡ slopesAfter (startedOf (lbfgsOf x.now o a)) slopes.old }
+    ensures outcome { (reply_of result (mark m.new place.n) point.new slopes.new, lists m.new w.new dx.new dg.new sx.new best.new centroid.new reflected.new points.new values.new lx.new lg.new ld.new tx.new tg.new ex.new eg.new ix.new ig.new h.new steps.new changes.new factors.new) ≡ started_of (lbfgs_of x.now o a) }
+    ensures said_point { point.new ≡ point_after (started_of (lbfgs_of x.now o a)) point.old }
+    ensures said_slopes { slopes.new ≡ slopes_after (started_of (lbfgs_of x.now o a)) slopes.old }
 {
     let begun = optim::lbfgs(x, o, a);
     reply::opened(
@@ -176,9 +176,9 @@ pub fn search(
     point: &mut [f64; 16],
     slopes: &mut [f64; 16],
 ) -> Said
-    ensures outcome { (replyOf result (mark m.new place.n) point.new slopes.new, lists m.new w.new dx.new dg.new sx.new best.new centroid.new reflected.new points.new values.new lx.new lg.new ld.new tx.new tg.new ex.new eg.new ix.new ig.new h.new steps.new changes.new factors.new) ≡ startedOf (searchOf x.now d.now f0 g.now step o gradients) }
-    ensures said_point { point.new ≡ pointAfter (startedOf (searchOf x.now d.now f0 g.now step o gradients)) point.old }
-    ensures said_slopes { slopes.new ≡ slopesAfter (startedOf (searchOf x.now d.now f0 g.now step o gradients)) slopes.old }
+    ensures outcome { (reply_of result (mark m.new place.n) point.new slopes.new, lists m.new w.new dx.new dg.new sx.new best.new centroid.new reflected.new points.new values.new lx.new lg.new ld.new tx.new tg.new ex.new eg.new ix.new ig.new h.new steps.new changes.new factors.new) ≡ started_of (search_of x.now d.now f0 g.now step o gradients) }
+    ensures said_point { point.new ≡ point_after (started_of (search_of x.now d.now f0 g.now step o gradients)) point.old }
+    ensures said_slopes { slopes.new ≡ slopes_after (started_of (search_of x.now d.now f0 g.now step o gradients)) slopes.old }
 {
     let begun = optim::search(x, d, f0, g, step, o, gradients);
     reply::opened(
@@ -216,9 +216,9 @@ pub fn differences(
     point: &mut [f64; 16],
     slopes: &mut [f64; 16],
 ) -> Said
-    ensures outcome { (replyOf result (mark m.new place.n) point.new slopes.new, lists m.new w.new dx.new dg.new sx.new best.new centroid.new reflected.new points.new values.new lx.new lg.new ld.new tx.new tg.new ex.new eg.new ix.new ig.new h.new steps.new changes.new factors.new) ≡ startedOf (differencesOf x.now) }
-    ensures said_point { point.new ≡ pointAfter (startedOf (differencesOf x.now)) point.old }
-    ensures said_slopes { slopes.new ≡ slopesAfter (startedOf (differencesOf x.now)) slopes.old }
+    ensures outcome { (reply_of result (mark m.new place.n) point.new slopes.new, lists m.new w.new dx.new dg.new sx.new best.new centroid.new reflected.new points.new values.new lx.new lg.new ld.new tx.new tg.new ex.new eg.new ix.new ig.new h.new steps.new changes.new factors.new) ≡ started_of (differences_of x.now) }
+    ensures said_point { point.new ≡ point_after (started_of (differences_of x.now)) point.old }
+    ensures said_slopes { slopes.new ≡ slopes_after (started_of (differences_of x.now)) slopes.old }
 {
     let begun = optim::differences(x);
     reply::opened(

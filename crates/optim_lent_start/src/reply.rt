@@ -1,20 +1,20 @@
 // What a call says in `point` and `slopes`, and what a start leaves.
 ghost use Rattle.std.specs.Prelude.{◌≡◌};
-ghost use Rattle.protocol.specs.Protocol.{replyOf};
-ghost use Rattle.optim_record.specs.Record.{outcomeOf};
-ghost use Rattle.optim_reply.specs.Spoken.{spokenBy, spokenIn};
+ghost use Rattle.protocol.specs.Protocol.{reply_of};
+ghost use Rattle.optim_record.specs.Record.{outcome_of};
+ghost use Rattle.optim_reply.specs.Spoken.{spoken_by, spoken_in};
 ghost use Rattle.optim_lists.specs.Layout as place;
 ghost use Rattle.optim_lists.specs.Lists.{lists, mark};
-ghost use Rattle.optim_lists.specs.Answered.{startedOf, pointWith, slopesWith, pointAfter, slopesAfter};
+ghost use Rattle.optim_lists.specs.Answered.{started_of, point_with, slopes_with, point_after, slopes_after};
 
 use optim_record::Answered;
 use protocol::Said;
 
 // The point and the gradient of which a reply speaks.
-#[tactic(auto, unfolding(protocol::specs::Protocol::replyOf, optim_lists::specs::Answered::pointWith, optim_lists::specs::Answered::slopesWith))]
+#[tactic(auto, unfolding(protocol::specs::Protocol::reply_of, optim_lists::specs::Answered::point_with, optim_lists::specs::Answered::slopes_with))]
 pub fn speak(said: Said, x: [f64; 16], g: [f64; 16], point: &mut [f64; 16], slopes: &mut [f64; 16])
-    ensures said_point { point.new ≡ pointWith (replyOf said 0 x g) x point.old }
-    ensures said_slopes { slopes.new ≡ slopesWith (replyOf said 0 x g) g slopes.old }
+    ensures said_point { point.new ≡ point_with (reply_of said 0 x g) x point.old }
+    ensures said_slopes { slopes.new ≡ slopes_with (reply_of said 0 x g) g slopes.old }
 {
     match said {
         Said::Ask(_, _) => {
@@ -64,10 +64,10 @@ pub fn opened(
     point: &mut [f64; 16],
     slopes: &mut [f64; 16],
 ) -> Said
-    requires { spokenIn a ≡ spokenBy (outcomeOf a) }
-    ensures outcome { (replyOf result (mark m.new place.n) point.new slopes.new, lists m.new w.new dx.new dg.new sx.new best.new centroid.new reflected.new points.new values.new lx.new lg.new ld.new tx.new tg.new ex.new eg.new ix.new ig.new h.new steps.new changes.new factors.new) ≡ startedOf (outcomeOf a) }
-    ensures said_point { point.new ≡ pointAfter (startedOf (outcomeOf a)) point.old }
-    ensures said_slopes { slopes.new ≡ slopesAfter (startedOf (outcomeOf a)) slopes.old }
+    requires { spoken_in a ≡ spoken_by (outcome_of a) }
+    ensures outcome { (reply_of result (mark m.new place.n) point.new slopes.new, lists m.new w.new dx.new dg.new sx.new best.new centroid.new reflected.new points.new values.new lx.new lg.new ld.new tx.new tg.new ex.new eg.new ix.new ig.new h.new steps.new changes.new factors.new) ≡ started_of (outcome_of a) }
+    ensures said_point { point.new ≡ point_after (started_of (outcome_of a)) point.old }
+    ensures said_slopes { slopes.new ≡ slopes_after (started_of (outcome_of a)) slopes.old }
 {
     let said = a.said;
     let x = a.x;

@@ -1,19 +1,19 @@
 -- Where each part of a record lies in the arrays that a caller lends: the place of every mark and of every single number, by name. Every place is read by one field, and every field
--- from one place: none is spare (`record-back`, `lists-back`). Definitions only.
+-- from one place: none is spare (`record_back`, `lists_back`). Definitions only.
 --
 -- | array | in the code | type | holds | jobs |
 -- |---|---|---|---|---|
 -- | marks | m | [u64; 36] | counts, phases and positions, then the flags, each 0 or 1: by the names below | all |
 -- | numbers | w | [f64; 28] | what is a single f64: by the names below | all |
--- | diffX, diffG | dx, dg | [f64; 16] | the point of bare differences, and their gradient | differences |
--- | simplexX | sx | [f64; 16] | the point asked for | simplex |
--- | bestX | best | [f64; 16] | the best point of all runs | simplex |
--- | centroid, reflectedX | centroid, reflected | [f64; 16] | the centroid, the reflected point | simplex |
+-- | diff_x, diff_g | dx, dg | [f64; 16] | the point of bare differences, and their gradient | differences |
+-- | simplex_x | sx | [f64; 16] | the point asked for | simplex |
+-- | best_x | best | [f64; 16] | the best point of all runs | simplex |
+-- | centroid, reflected_x | centroid, reflected | [f64; 16] | the centroid, the reflected point | simplex |
 -- | points, values | points, values | [[f64; 16]; 17], [f64; 17] | the vertices, and the value at each | simplex |
--- | lineX, lineG, lineD | lx, lg, ld | [f64; 16] | the point that a search starts from, its gradient, the direction | search, bfgs, lbfgs |
--- | trialX, trialG | tx, tg | [f64; 16] | the best trial's point and gradient | search, bfgs, lbfgs |
--- | searchDiffX, searchDiffG | ex, eg | [f64; 16] | the differences at a trial | search, bfgs, lbfgs |
--- | firstDiffX, firstDiffG | ix, ig | [f64; 16] | the differences at x0 | bfgs, lbfgs |
+-- | line_x, line_g, line_d | lx, lg, ld | [f64; 16] | the point that a search starts from, its gradient, the direction | search, bfgs, lbfgs |
+-- | trial_x, trial_g | tx, tg | [f64; 16] | the best trial's point and gradient | search, bfgs, lbfgs |
+-- | search_diff_x, search_diff_g | ex, eg | [f64; 16] | the differences at a trial | search, bfgs, lbfgs |
+-- | first_diff_x, first_diff_g | ix, ig | [f64; 16] | the differences at x0 | bfgs, lbfgs |
 -- | hessian | h | [f64; 256] | the inverse Hessian, row by row | bfgs |
 -- | steps, changes, factors | steps, changes, factors | [[f64; 16]; 16] twice, [f64; 16] | s, y and rho of each pair, oldest first | lbfgs |
 use Rattle.std.specs.Prelude.{ℕ}
@@ -37,70 +37,70 @@ abbrev pub gevals : ℕ
 gevals = 4
 
 -- what a fit's start fixed: max_iter and max_fevals, restarts, max_evals, memory
-abbrev pub iterLimit : ℕ
-iterLimit = 5
+abbrev pub iter_limit : ℕ
+iter_limit = 5
 
-abbrev pub fevalsLimit : ℕ
-fevalsLimit = 6
+abbrev pub fevals_limit : ℕ
+fevals_limit = 6
 
 abbrev pub restarts : ℕ
 restarts = 7
 
-abbrev pub maxEvals : ℕ
-maxEvals = 8
+abbrev pub max_evals : ℕ
+max_evals = 8
 
 abbrev pub memory : ℕ
 memory = 9
 
 -- differences: coordinates done
-abbrev pub diffAt : ℕ
-diffAt = 10
+abbrev pub diff_at : ℕ
+diff_at = 10
 
 -- simplex: what the open question is for, the vertex that it is for, rounds and runs done
-abbrev pub simplexPhase : ℕ
-simplexPhase = 11
+abbrev pub simplex_phase : ℕ
+simplex_phase = 11
 
-abbrev pub simplexAt : ℕ
-simplexAt = 12
+abbrev pub simplex_at : ℕ
+simplex_at = 12
 
-abbrev pub simplexRounds : ℕ
-simplexRounds = 13
+abbrev pub simplex_rounds : ℕ
+simplex_rounds = 13
 
 abbrev pub runs : ℕ
 runs = 14
 
 -- a gradient fit: what the open question is for or how it ended, the refusal that ended it, rounds done
-abbrev pub descentPhase : ℕ
-descentPhase = 15
+abbrev pub descent_phase : ℕ
+descent_phase = 15
 
-abbrev pub refusalNumber : ℕ
-refusalNumber = 16
+abbrev pub refusal_number : ℕ
+refusal_number = 16
 
-abbrev pub refusalDetail : ℕ
-refusalDetail = 17
+abbrev pub refusal_detail : ℕ
+refusal_detail = 17
 
-abbrev pub descentRounds : ℕ
-descentRounds = 18
+abbrev pub descent_rounds : ℕ
+descent_rounds = 18
 
 -- its search, or a bare one: what the open question is for or how it ended, trials made; coordinates done of its differences, and of those at x0
-abbrev pub searchPhase : ℕ
-searchPhase = 19
+abbrev pub search_phase : ℕ
+search_phase = 19
 
 abbrev pub trials : ℕ
 trials = 20
 
-abbrev pub searchDiffAt : ℕ
-searchDiffAt = 21
+abbrev pub search_diff_at : ℕ
+search_diff_at = 21
 
-abbrev pub firstDiffAt : ℕ
-firstDiffAt = 22
+abbrev pub first_diff_at : ℕ
+first_diff_at = 22
 
 -- the model: how many pairs it may hold, and holds
-abbrev pub modelMemory : ℕ
-modelMemory = 23
+abbrev pub model_memory : ℕ
+model_memory = 23
 
-abbrev pub pairCount : ℕ
-pairCount = 24
+abbrev pub pair_count : ℕ
+pair_count = 24
 
 -- the flags stand last
 abbrev pub flags : ℕ
@@ -131,11 +131,11 @@ abbrev pub kept : ℕ
 kept = 31
 
 -- whether x+h has been told in the differences at a trial, and in those at x0
-abbrev pub searchForward : ℕ
-searchForward = 32
+abbrev pub search_forward : ℕ
+search_forward = 32
 
-abbrev pub firstForward : ℕ
-firstForward = 33
+abbrev pub first_forward : ℕ
+first_forward = 33
 
 -- the model: whether it is of limited memory, whether the dense one has had no update
 abbrev pub limited : ℕ
@@ -144,20 +144,20 @@ limited = 34
 abbrev pub fresh : ℕ
 fresh = 35
 
-abbrev pub markCount : ℕ
-markCount = 36
+abbrev pub mark_count : ℕ
+mark_count = 36
 
 -- ---- numbers
 
 -- simplex options: x_tol, f_tol, initial_step
-abbrev pub simplexXtol : ℕ
-simplexXtol = 0
+abbrev pub simplex_xtol : ℕ
+simplex_xtol = 0
 
-abbrev pub simplexFtol : ℕ
-simplexFtol = 1
+abbrev pub simplex_ftol : ℕ
+simplex_ftol = 1
 
-abbrev pub simplexStep : ℕ
-simplexStep = 2
+abbrev pub simplex_step : ℕ
+simplex_step = 2
 
 -- gradient options: grad_tol, f_tol, x_tol, c1, c2, step_max
 abbrev pub gradtol : ℕ
@@ -179,67 +179,67 @@ abbrev pub stepmax : ℕ
 stepmax = 8
 
 -- differences: the value at x+h
-abbrev pub diffValue : ℕ
-diffValue = 9
+abbrev pub diff_value : ℕ
+diff_value = 9
 
 -- simplex: the values at the best point and at the reflected one
-abbrev pub bestF : ℕ
-bestF = 10
+abbrev pub best_f : ℕ
+best_f = 10
 
-abbrev pub reflectedF : ℕ
-reflectedF = 11
+abbrev pub reflected_f : ℕ
+reflected_f = 11
 
 -- the line: its value and slope at the start
-abbrev pub lineF : ℕ
-lineF = 12
+abbrev pub line_f : ℕ
+line_f = 12
 
-abbrev pub lineSlope : ℕ
-lineSlope = 13
+abbrev pub line_slope : ℕ
+line_slope = 13
 
 -- the search: its low and high ends, the trial in hand, the best one
-abbrev pub loStep : ℕ
-loStep = 14
+abbrev pub lo_step : ℕ
+lo_step = 14
 
-abbrev pub loValue : ℕ
-loValue = 15
+abbrev pub lo_value : ℕ
+lo_value = 15
 
-abbrev pub loSlope : ℕ
-loSlope = 16
+abbrev pub lo_slope : ℕ
+lo_slope = 16
 
-abbrev pub hiStep : ℕ
-hiStep = 17
+abbrev pub hi_step : ℕ
+hi_step = 17
 
-abbrev pub hiValue : ℕ
-hiValue = 18
+abbrev pub hi_value : ℕ
+hi_value = 18
 
-abbrev pub hiSlope : ℕ
-hiSlope = 19
+abbrev pub hi_slope : ℕ
+hi_slope = 19
 
-abbrev pub trialStep : ℕ
-trialStep = 20
+abbrev pub trial_step : ℕ
+trial_step = 20
 
-abbrev pub trialValue : ℕ
-trialValue = 21
+abbrev pub trial_value : ℕ
+trial_value = 21
 
-abbrev pub bestStep : ℕ
-bestStep = 22
+abbrev pub best_step : ℕ
+best_step = 22
 
-abbrev pub bestValue : ℕ
-bestValue = 23
+abbrev pub best_value : ℕ
+best_value = 23
 
-abbrev pub bestSlope : ℕ
-bestSlope = 24
+abbrev pub best_slope : ℕ
+best_slope = 24
 
 -- the values at x+h of the differences at a trial, and of those at x0
-abbrev pub searchDiffValue : ℕ
-searchDiffValue = 25
+abbrev pub search_diff_value : ℕ
+search_diff_value = 25
 
-abbrev pub firstDiffValue : ℕ
-firstDiffValue = 26
+abbrev pub first_diff_value : ℕ
+first_diff_value = 26
 
 -- limited memory: gamma
 abbrev pub gamma : ℕ
 gamma = 27
 
-abbrev pub numberCount : ℕ
-numberCount = 28
+abbrev pub number_count : ℕ
+number_count = 28

@@ -1,4 +1,4 @@
--- A record as the arrays that its caller holds and lends to each call: `recordOf` is the record that they are, `listsOf` the one form of a record, `formedOf` whether their flags are known
+-- A record as the arrays that its caller holds and lends to each call: `record_of` is the record that they are, `lists_of` the one form of a record, `formed_of` whether their flags are known
 -- marks. The engine's definitions and theorems speak of records, and of lists through these. Definitions only.
 use Rattle.std.specs.Prelude.{ℕ, Bool, true, not, ◌&&◌, cond, List, [], ◌∷◌, map, eqb, leb, get_or, drop, Float}
 use Rattle.vector.specs.Loops.{at}
@@ -21,23 +21,23 @@ use Rattle.optim_lists.specs.Layout as place
 pub record Lists : Type 0 where
   pub marks : List ℕ
   pub numbers : List Float
-  pub diffX : List Float
-  pub diffG : List Float
-  pub simplexX : List Float
-  pub bestX : List Float
+  pub diff_x : List Float
+  pub diff_g : List Float
+  pub simplex_x : List Float
+  pub best_x : List Float
   pub centroid : List Float
-  pub reflectedX : List Float
+  pub reflected_x : List Float
   pub points : List (List Float)
   pub values : List Float
-  pub lineX : List Float
-  pub lineG : List Float
-  pub lineD : List Float
-  pub trialX : List Float
-  pub trialG : List Float
-  pub searchDiffX : List Float
-  pub searchDiffG : List Float
-  pub firstDiffX : List Float
-  pub firstDiffG : List Float
+  pub line_x : List Float
+  pub line_g : List Float
+  pub line_d : List Float
+  pub trial_x : List Float
+  pub trial_g : List Float
+  pub search_diff_x : List Float
+  pub search_diff_g : List Float
+  pub first_diff_x : List Float
+  pub first_diff_g : List Float
   pub hessian : List Float
   pub steps : List (List Float)
   pub changes : List (List Float)
@@ -45,27 +45,27 @@ pub record Lists : Type 0 where
 
 -- the arrays as a call is lent them
 abbrev pub lists : List ℕ → List Float → List Float → List Float → List Float → List Float → List Float → List Float → List (List Float) → List Float → List Float → List Float → List Float → List Float → List Float → List Float → List Float → List Float → List Float → List Float → List (List Float) → List (List Float) → List Float → Lists
-lists marks numbers diffX diffG simplexX bestX centroid reflectedX points values lineX lineG lineD trialX trialG searchDiffX searchDiffG firstDiffX firstDiffG hessian steps changes factors =
+lists marks numbers diff_x diff_g simplex_x best_x centroid reflected_x points values line_x line_g line_d trial_x trial_g search_diff_x search_diff_g first_diff_x first_diff_g hessian steps changes factors =
     record {
       marks = marks;
       numbers = numbers;
-      diffX = diffX;
-      diffG = diffG;
-      simplexX = simplexX;
-      bestX = bestX;
+      diff_x = diff_x;
+      diff_g = diff_g;
+      simplex_x = simplex_x;
+      best_x = best_x;
       centroid = centroid;
-      reflectedX = reflectedX;
+      reflected_x = reflected_x;
       points = points;
       values = values;
-      lineX = lineX;
-      lineG = lineG;
-      lineD = lineD;
-      trialX = trialX;
-      trialG = trialG;
-      searchDiffX = searchDiffX;
-      searchDiffG = searchDiffG;
-      firstDiffX = firstDiffX;
-      firstDiffG = firstDiffG;
+      line_x = line_x;
+      line_g = line_g;
+      line_d = line_d;
+      trial_x = trial_x;
+      trial_g = trial_g;
+      search_diff_x = search_diff_x;
+      search_diff_g = search_diff_g;
+      first_diff_x = first_diff_x;
+      first_diff_g = first_diff_g;
       hessian = hessian;
       steps = steps;
       changes = changes;
@@ -81,141 +81,141 @@ abbrev pub flag : List ℕ → ℕ → Bool
 flag ms i = not (eqb (mark ms i) 0)
 
 -- "each with its sixteen coordinates .. and its value": point and value of one place are a vertex
-unfoldable pub verticesFrom : List (List Float) → List Float → List Vertex
-verticesFrom [] fs = []
-verticesFrom (x ∷ xs) [] = []
-verticesFrom (x ∷ xs) (f ∷ fs) = record { x = x; f = f } ∷ verticesFrom xs fs
+unfoldable pub vertices_from : List (List Float) → List Float → List Vertex
+vertices_from [] fs = []
+vertices_from (x ∷ xs) [] = []
+vertices_from (x ∷ xs) (f ∷ fs) = record { x = x; f = f } ∷ vertices_from xs fs
 
 -- step, change and factor of one place are a pair
-unfoldable pub pairsFrom : List (List Float) → List (List Float) → List Float → List Pair
-pairsFrom [] ys rs = []
-pairsFrom (s ∷ ss) [] rs = []
-pairsFrom (s ∷ ss) (y ∷ ys) [] = []
-pairsFrom (s ∷ ss) (y ∷ ys) (r ∷ rs) = record { s = s; y = y; rho = r } ∷ pairsFrom ss ys rs
+unfoldable pub pairs_from : List (List Float) → List (List Float) → List Float → List Pair
+pairs_from [] ys rs = []
+pairs_from (s ∷ ss) [] rs = []
+pairs_from (s ∷ ss) (y ∷ ys) [] = []
+pairs_from (s ∷ ss) (y ∷ ys) (r ∷ rs) = record { s = s; y = y; rho = r } ∷ pairs_from ss ys rs
 
 -- each part, from the marks, the numbers and its own arrays
-abbrev pub optionsFrom : List ℕ → List Float → SimplexOptions
-optionsFrom ms ws =
+abbrev pub options_from : List ℕ → List Float → SimplexOptions
+options_from ms ws =
     record {
-      xtol = at ws place.simplexXtol;
-      ftol = at ws place.simplexFtol;
-      step = at ws place.simplexStep;
+      xtol = at ws place.simplex_xtol;
+      ftol = at ws place.simplex_ftol;
+      step = at ws place.simplex_step;
       restarts = mark ms place.restarts;
       adaptive = flag ms place.adaptive;
     }
 
-abbrev pub gradientOptionsFrom : List ℕ → List Float → GradientOptions
-gradientOptionsFrom ms ws =
+abbrev pub gradient_options_from : List ℕ → List Float → GradientOptions
+gradient_options_from ms ws =
     record {
       gradtol = at ws place.gradtol;
       ftol = at ws place.ftol;
       xtol = at ws place.xtol;
-      wolfe = record { c1 = at ws place.c1; c2 = at ws place.c2; stepmax = at ws place.stepmax; evals = mark ms place.maxEvals };
+      wolfe = record { c1 = at ws place.c1; c2 = at ws place.c2; stepmax = at ws place.stepmax; evals = mark ms place.max_evals };
       memory = mark ms place.memory;
       gradients = flag ms place.gradients;
     }
 
-abbrev pub differencesFrom : List ℕ → List Float → List Float → List Float → Differences
-differencesFrom ms ws x g = record { at = mark ms place.diffAt; forward = flag ms place.forward; value = at ws place.diffValue; x = x; g = g }
+abbrev pub differences_from : List ℕ → List Float → List Float → List Float → Differences
+differences_from ms ws x g = record { at = mark ms place.diff_at; forward = flag ms place.forward; value = at ws place.diff_value; x = x; g = g }
 
-abbrev pub simplexFrom : List ℕ → List Float → List Float → List Float → List Float → List Float → List Vertex → Simplex
-simplexFrom ms ws x best cen reflected v =
+abbrev pub simplex_from : List ℕ → List Float → List Float → List Float → List Float → List Float → List Vertex → Simplex
+simplex_from ms ws x best cen reflected v =
     record {
-      phase = mark ms place.simplexPhase;
-      at = mark ms place.simplexAt;
-      rounds = mark ms place.simplexRounds;
+      phase = mark ms place.simplex_phase;
+      at = mark ms place.simplex_at;
+      rounds = mark ms place.simplex_rounds;
       runs = mark ms place.runs;
       x = x;
-      best = record { x = best; f = at ws place.bestF };
+      best = record { x = best; f = at ws place.best_f };
       cen = cen;
-      refl = record { x = reflected; f = at ws place.reflectedF };
+      refl = record { x = reflected; f = at ws place.reflected_f };
       v = v;
     }
 
-abbrev pub lineFrom : List Float → List Float → List Float → List Float → Line
-lineFrom ws x g d = record { x = x; g = g; d = d; f = at ws place.lineF; slope = at ws place.lineSlope }
+abbrev pub line_from : List Float → List Float → List Float → List Float → Line
+line_from ws x g d = record { x = x; g = g; d = d; f = at ws place.line_f; slope = at ws place.line_slope }
 
 -- the ends of a search's interval, and the best trial with its point and gradient
-abbrev pub lowFrom : List Float → Trial
-lowFrom ws = record { step = at ws place.loStep; value = at ws place.loValue; slope = at ws place.loSlope }
+abbrev pub low_from : List Float → Trial
+low_from ws = record { step = at ws place.lo_step; value = at ws place.lo_value; slope = at ws place.lo_slope }
 
-abbrev pub highFrom : List Float → Trial
-highFrom ws = record { step = at ws place.hiStep; value = at ws place.hiValue; slope = at ws place.hiSlope }
+abbrev pub high_from : List Float → Trial
+high_from ws = record { step = at ws place.hi_step; value = at ws place.hi_value; slope = at ws place.hi_slope }
 
-abbrev pub bestFrom : List Float → List Float → List Float → Evaluation
-bestFrom ws x g = record { trial = record { step = at ws place.bestStep; value = at ws place.bestValue; slope = at ws place.bestSlope }; x = x; g = g }
+abbrev pub best_from : List Float → List Float → List Float → Evaluation
+best_from ws x g = record { trial = record { step = at ws place.best_step; value = at ws place.best_value; slope = at ws place.best_slope }; x = x; g = g }
 
-abbrev pub searchDifferencesFrom : List ℕ → List Float → List Float → List Float → Differences
-searchDifferencesFrom ms ws x g = record { at = mark ms place.searchDiffAt; forward = flag ms place.searchForward; value = at ws place.searchDiffValue; x = x; g = g }
+abbrev pub search_differences_from : List ℕ → List Float → List Float → List Float → Differences
+search_differences_from ms ws x g = record { at = mark ms place.search_diff_at; forward = flag ms place.search_forward; value = at ws place.search_diff_value; x = x; g = g }
 
-abbrev pub searchFrom : List ℕ → List Float → Trial → Trial → Evaluation → Differences → Search
-searchFrom ms ws lo hi best diff =
+abbrev pub search_from : List ℕ → List Float → Trial → Trial → Evaluation → Differences → Search
+search_from ms ws lo hi best diff =
     record {
-      phase = mark ms place.searchPhase;
+      phase = mark ms place.search_phase;
       zooming = flag ms place.zooming;
       trials = mark ms place.trials;
       previous = flag ms place.previous;
       lo = lo;
       hi = hi;
-      step = at ws place.trialStep;
-      value = at ws place.trialValue;
+      step = at ws place.trial_step;
+      value = at ws place.trial_value;
       kept = flag ms place.kept;
       best = best;
       diff = diff;
     }
 
-abbrev pub firstDifferencesFrom : List ℕ → List Float → List Float → List Float → Differences
-firstDifferencesFrom ms ws x g = record { at = mark ms place.firstDiffAt; forward = flag ms place.firstForward; value = at ws place.firstDiffValue; x = x; g = g }
+abbrev pub first_differences_from : List ℕ → List Float → List Float → List Float → Differences
+first_differences_from ms ws x g = record { at = mark ms place.first_diff_at; forward = flag ms place.first_forward; value = at ws place.first_diff_value; x = x; g = g }
 
-abbrev pub descentFrom : List ℕ → Line → Search → Differences → Descent
-descentFrom ms line search diff =
+abbrev pub descent_from : List ℕ → Line → Search → Differences → Descent
+descent_from ms line search diff =
     record {
-      phase = mark ms place.descentPhase;
-      number = mark ms place.refusalNumber;
-      detail = mark ms place.refusalDetail;
+      phase = mark ms place.descent_phase;
+      number = mark ms place.refusal_number;
+      detail = mark ms place.refusal_detail;
       first = flag ms place.first;
-      rounds = mark ms place.descentRounds;
+      rounds = mark ms place.descent_rounds;
       line = line;
       search = search;
       diff = diff;
     }
 
-abbrev pub modelFrom : List ℕ → List Float → List Float → List Pair → Model
-modelFrom ms ws h p =
+abbrev pub model_from : List ℕ → List Float → List Float → List Pair → Model
+model_from ms ws h p =
     record {
       limited = flag ms place.limited;
-      memory = mark ms place.modelMemory;
+      memory = mark ms place.model_memory;
       dense = record { fresh = flag ms place.fresh; h = h };
-      pairs = record { count = mark ms place.pairCount; gamma = at ws place.gamma; pairs = p };
+      pairs = record { count = mark ms place.pair_count; gamma = at ws place.gamma; pairs = p };
     }
 
-unfoldable pub recordOf : Lists → Record
-recordOf l =
+unfoldable pub record_of : Lists → Record
+record_of l =
     let ms = l.marks in
     let ws = l.numbers in
-    let search = searchFrom ms ws (lowFrom ws) (highFrom ws) (bestFrom ws l.trialX l.trialG) (searchDifferencesFrom ms ws l.searchDiffX l.searchDiffG) in
+    let search = search_from ms ws (low_from ws) (high_from ws) (best_from ws l.trial_x l.trial_g) (search_differences_from ms ws l.search_diff_x l.search_diff_g) in
     record {
       accepted = mark ms place.accepted;
       job = mark ms place.job;
       n = mark ms place.n;
       counts = record { fevals = mark ms place.fevals; gevals = mark ms place.gevals };
-      limits = record { iter = mark ms place.iterLimit; fevals = mark ms place.fevalsLimit };
-      options = optionsFrom ms ws;
-      gradient = gradientOptionsFrom ms ws;
-      diff = differencesFrom ms ws l.diffX l.diffG;
-      simplex = simplexFrom ms ws l.simplexX l.bestX l.centroid l.reflectedX (verticesFrom l.points l.values);
-      descent = descentFrom ms (lineFrom ws l.lineX l.lineG l.lineD) search (firstDifferencesFrom ms ws l.firstDiffX l.firstDiffG);
-      model = modelFrom ms ws l.hessian (pairsFrom l.steps l.changes l.factors);
+      limits = record { iter = mark ms place.iter_limit; fevals = mark ms place.fevals_limit };
+      options = options_from ms ws;
+      gradient = gradient_options_from ms ws;
+      diff = differences_from ms ws l.diff_x l.diff_g;
+      simplex = simplex_from ms ws l.simplex_x l.best_x l.centroid l.reflected_x (vertices_from l.points l.values);
+      descent = descent_from ms (line_from ws l.line_x l.line_g l.line_d) search (first_differences_from ms ws l.first_diff_x l.first_diff_g);
+      model = model_from ms ws l.hessian (pairs_from l.steps l.changes l.factors);
     }
 
 -- ---- the one form of a record
 
-abbrev pub flagOf : Bool → ℕ
-flagOf b = cond b 1 0
+abbrev pub flag_of : Bool → ℕ
+flag_of b = cond b 1 0
 
 -- in the order of the places
-unfoldable pub marksOf : Record → List ℕ
-marksOf r =
+unfoldable pub marks_of : Record → List ℕ
+marks_of r =
     r.accepted ∷ r.job ∷ r.n ∷ r.counts.fevals ∷ r.counts.gevals
     ∷ r.limits.iter ∷ r.limits.fevals ∷ r.options.restarts ∷ r.gradient.wolfe.evals ∷ r.gradient.memory
     ∷ r.diff.at
@@ -223,15 +223,15 @@ marksOf r =
     ∷ r.descent.phase ∷ r.descent.number ∷ r.descent.detail ∷ r.descent.rounds
     ∷ r.descent.search.phase ∷ r.descent.search.trials ∷ r.descent.search.diff.at ∷ r.descent.diff.at
     ∷ r.model.memory ∷ r.model.pairs.count
-    ∷ flagOf r.options.adaptive ∷ flagOf r.gradient.gradients
-    ∷ flagOf r.diff.forward
-    ∷ flagOf r.descent.first ∷ flagOf r.descent.search.zooming ∷ flagOf r.descent.search.previous ∷ flagOf r.descent.search.kept
-    ∷ flagOf r.descent.search.diff.forward ∷ flagOf r.descent.diff.forward
-    ∷ flagOf r.model.limited ∷ flagOf r.model.dense.fresh
+    ∷ flag_of r.options.adaptive ∷ flag_of r.gradient.gradients
+    ∷ flag_of r.diff.forward
+    ∷ flag_of r.descent.first ∷ flag_of r.descent.search.zooming ∷ flag_of r.descent.search.previous ∷ flag_of r.descent.search.kept
+    ∷ flag_of r.descent.search.diff.forward ∷ flag_of r.descent.diff.forward
+    ∷ flag_of r.model.limited ∷ flag_of r.model.dense.fresh
     ∷ []
 
-unfoldable pub numbersOf : Record → List Float
-numbersOf r =
+unfoldable pub numbers_of : Record → List Float
+numbers_of r =
     r.options.xtol ∷ r.options.ftol ∷ r.options.step
     ∷ r.gradient.gradtol ∷ r.gradient.ftol ∷ r.gradient.xtol ∷ r.gradient.wolfe.c1 ∷ r.gradient.wolfe.c2 ∷ r.gradient.wolfe.stepmax
     ∷ r.diff.value
@@ -245,56 +245,56 @@ numbersOf r =
     ∷ r.model.pairs.gamma
     ∷ []
 
-abbrev pub pointsOf : List Vertex → List (List Float)
-pointsOf v = map (λ (a : Vertex). a.x) v
+abbrev pub points_of : List Vertex → List (List Float)
+points_of v = map (λ (a : Vertex). a.x) v
 
-abbrev pub valuesOf : List Vertex → List Float
-valuesOf v = map (λ (a : Vertex). a.f) v
+abbrev pub values_of : List Vertex → List Float
+values_of v = map (λ (a : Vertex). a.f) v
 
-abbrev pub stepsOf : List Pair → List (List Float)
-stepsOf p = map (λ (a : Pair). a.s) p
+abbrev pub steps_of : List Pair → List (List Float)
+steps_of p = map (λ (a : Pair). a.s) p
 
-abbrev pub changesOf : List Pair → List (List Float)
-changesOf p = map (λ (a : Pair). a.y) p
+abbrev pub changes_of : List Pair → List (List Float)
+changes_of p = map (λ (a : Pair). a.y) p
 
-abbrev pub factorsOf : List Pair → List Float
-factorsOf p = map (λ (a : Pair). a.rho) p
+abbrev pub factors_of : List Pair → List Float
+factors_of p = map (λ (a : Pair). a.rho) p
 
-unfoldable pub listsOf : Record → Lists
-listsOf r =
+unfoldable pub lists_of : Record → Lists
+lists_of r =
     record {
-      marks = marksOf r;
-      numbers = numbersOf r;
-      diffX = r.diff.x;
-      diffG = r.diff.g;
-      simplexX = r.simplex.x;
-      bestX = r.simplex.best.x;
+      marks = marks_of r;
+      numbers = numbers_of r;
+      diff_x = r.diff.x;
+      diff_g = r.diff.g;
+      simplex_x = r.simplex.x;
+      best_x = r.simplex.best.x;
       centroid = r.simplex.cen;
-      reflectedX = r.simplex.refl.x;
-      points = pointsOf r.simplex.v;
-      values = valuesOf r.simplex.v;
-      lineX = r.descent.line.x;
-      lineG = r.descent.line.g;
-      lineD = r.descent.line.d;
-      trialX = r.descent.search.best.x;
-      trialG = r.descent.search.best.g;
-      searchDiffX = r.descent.search.diff.x;
-      searchDiffG = r.descent.search.diff.g;
-      firstDiffX = r.descent.diff.x;
-      firstDiffG = r.descent.diff.g;
+      reflected_x = r.simplex.refl.x;
+      points = points_of r.simplex.v;
+      values = values_of r.simplex.v;
+      line_x = r.descent.line.x;
+      line_g = r.descent.line.g;
+      line_d = r.descent.line.d;
+      trial_x = r.descent.search.best.x;
+      trial_g = r.descent.search.best.g;
+      search_diff_x = r.descent.search.diff.x;
+      search_diff_g = r.descent.search.diff.g;
+      first_diff_x = r.descent.diff.x;
+      first_diff_g = r.descent.diff.g;
       hessian = r.model.dense.h;
-      steps = stepsOf r.model.pairs.pairs;
-      changes = changesOf r.model.pairs.pairs;
-      factors = factorsOf r.model.pairs.pairs;
+      steps = steps_of r.model.pairs.pairs;
+      changes = changes_of r.model.pairs.pairs;
+      factors = factors_of r.model.pairs.pairs;
     }
 
 -- ---- the flags
 
 -- whether every mark of a list is 0 or 1
-abbrev pub flagsOnly : List ℕ → Bool
-flagsOnly [] = true
-flagsOnly (k ∷ ks) = leb k 1 && flagsOnly ks
+abbrev pub flags_only : List ℕ → Bool
+flags_only [] = true
+flags_only (k ∷ ks) = leb k 1 && flags_only ks
 
 -- 1: "an unknown mark". A flag whose mark is neither 0 nor 1 is one, in any part: it is looked at before a Bool is read of it.
-unfoldable pub formedOf : Lists → Bool
-formedOf l = flagsOnly (drop place.flags l.marks)
+unfoldable pub formed_of : Lists → Bool
+formed_of l = flags_only (drop place.flags l.marks)

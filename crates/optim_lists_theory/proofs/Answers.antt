@@ -1,4 +1,4 @@
--- The first demand over lists, of answers and of starts: `lists-answers`, `lists-starts`. Assumes nothing.
+-- The first demand over lists, of answers and of starts: `lists_answers`, `lists_starts`. Assumes nothing.
 use Prim.Native.Nat.{ℕ}
 use mathlib.Core.Path.{◌≡◌, refl, sym, ap, ◌∙◌, subst}
 use mathlib.Core.Bool.{Bool, true, false}
@@ -7,54 +7,54 @@ use lib.Dec.{T}
 use lib.Ieee.{Float}
 use Rattle.protocol.specs.Protocol.{Reply, refused}
 use Rattle.optim_record.specs.declared.Record.{Record}
-use Rattle.optim_record.specs.Record.{validOf}
-use Rattle.optim_reply.specs.Standing.{standingOf}
-use Rattle.optim_rules.specs.Rules.{repeatsOf}
-use Rattle.optim_theory.specs.Replies.{Among, turnsAway, refusesAnswer, StartReplies}
+use Rattle.optim_record.specs.Record.{valid_of}
+use Rattle.optim_reply.specs.Standing.{standing_of}
+use Rattle.optim_rules.specs.Rules.{repeats_of}
+use Rattle.optim_theory.specs.Replies.{Among, turns_away, refuses_answer, StartReplies}
 use Rattle.optim_theory.proofs.Replies.{answers}
 use Rattle.optim_theory.proofs.RepliesStarts.{starts}
 use Rattle.optim_lists.specs.Layout as place
-use Rattle.optim_lists.specs.Lists.{Lists, mark, recordOf, listsOf, formedOf}
-use Rattle.optim_lists.specs.Answered.{answeredOf, startedOf}
-use Rattle.optim_lists.proofs.Answers.{accepted-read, unknown-flag, answer-replies, kept}
+use Rattle.optim_lists.specs.Lists.{Lists, mark, record_of, lists_of, formed_of}
+use Rattle.optim_lists.specs.Answered.{answered_of, started_of}
+use Rattle.optim_lists.proofs.Answers.{accepted_read, unknown_flag, answer_replies, kept}
 use Rattle.optim_lists_theory.specs.Answers.{ListsAnswers, StartedReplies, ListsStarts}
 
 module _ (l : Lists) (number kind : ℕ) (words : List Float) where
   abbrev C : Reply × Lists
-  C = answeredOf l number kind words
+  C = answered_of l number kind words
 
-  in-scope : Among refusesAnswer C.0
-  in-scope = go (formedOf l) refl
+  in_scope : Among refuses_answer C.0
+  in_scope = go (formed_of l) refl
     where
-      go : (b : Bool) → formedOf l ≡ b → Among refusesAnswer C.0
-      go true e = subst (Among refusesAnswer) (sym (answer-replies l number kind words e)) (answers.in-scope (recordOf l) number kind words)
-      go false e = subst (λ (a : Reply × Lists). Among refusesAnswer a.0) (sym (unknown-flag l number kind words e)) tt
+      go : (b : Bool) → formed_of l ≡ b → Among refuses_answer C.0
+      go true e = subst (Among refuses_answer) (sym (answer_replies l number kind words e)) (answers.in_scope (record_of l) number kind words)
+      go false e = subst (λ (a : Reply × Lists). Among refuses_answer a.0) (sym (unknown_flag l number kind words e)) tt
 
-  refused-keeps : (k d : ℕ) → C.0 ≡ refused k d → T (turnsAway k) → C.1 ≡ l
-  refused-keeps k d h t = go (formedOf l) refl
+  refused_keeps : (k d : ℕ) → C.0 ≡ refused k d → T (turns_away k) → C.1 ≡ l
+  refused_keeps k d h t = go (formed_of l) refl
     where
-      go : (b : Bool) → formedOf l ≡ b → C.1 ≡ l
-      go true e = kept l number kind words e (answers.refused-keeps (recordOf l) number kind words k d (sym (answer-replies l number kind words e) ∙ h) t)
-      go false e = ap (λ (a : Reply × Lists). a.1) (unknown-flag l number kind words e)
+      go : (b : Bool) → formed_of l ≡ b → C.1 ≡ l
+      go true e = kept l number kind words e (answers.refused_keeps (record_of l) number kind words k d (sym (answer_replies l number kind words e) ∙ h) t)
+      go false e = ap (λ (a : Reply × Lists). a.1) (unknown_flag l number kind words e)
 
-  repeat-keeps : formedOf l ≡ true → validOf (recordOf l) ≡ true → repeatsOf (mark l.marks place.accepted) number ≡ true → (C.0 ≡ (standingOf (recordOf l)).0) × (C.1 ≡ l)
-  repeat-keeps e v t =
-      let h = answers.repeat-keeps (recordOf l) number kind words v (ap (λ (k : ℕ). repeatsOf k number) (accepted-read l) ∙ t) in
-      (answer-replies l number kind words e ∙ h.0, kept l number kind words e h.1)
+  repeat_keeps : formed_of l ≡ true → valid_of (record_of l) ≡ true → repeats_of (mark l.marks place.accepted) number ≡ true → (C.0 ≡ (standing_of (record_of l)).0) × (C.1 ≡ l)
+  repeat_keeps e v t =
+      let h = answers.repeat_keeps (record_of l) number kind words v (ap (λ (k : ℕ). repeats_of k number) (accepted_read l) ∙ t) in
+      (answer_replies l number kind words e ∙ h.0, kept l number kind words e h.1)
 
-  out-of-range : formedOf l ≡ true → validOf (recordOf l) ≡ false → C ≡ (refused 1 0, l)
-  out-of-range e v =
-      let h = answers.out-of-range (recordOf l) number kind words v in
-      λ i. ((answer-replies l number kind words e ∙ ap (λ (a : Reply × Record). a.0) h) i, kept l number kind words e (ap (λ (a : Reply × Record). a.1) h) i)
+  out_of_range : formed_of l ≡ true → valid_of (record_of l) ≡ false → C ≡ (refused 1 0, l)
+  out_of_range e v =
+      let h = answers.out_of_range (record_of l) number kind words v in
+      λ i. ((answer_replies l number kind words e ∙ ap (λ (a : Reply × Record). a.0) h) i, kept l number kind words e (ap (λ (a : Reply × Record). a.1) h) i)
 
-pub lists-answers : ListsAnswers
-lists-answers = record { in-scope = in-scope; refused-keeps = refused-keeps; repeat-keeps = repeat-keeps; unknown-flag = unknown-flag; out-of-range = out-of-range }
+pub lists_answers : ListsAnswers
+lists_answers = record { in_scope = in_scope; refused_keeps = refused_keeps; repeat_keeps = repeat_keeps; unknown_flag = unknown_flag; out_of_range = out_of_range }
 
-started : (these : ℕ → ℕ → Bool) (y : Reply × Record) → StartReplies these y → StartedReplies these (startedOf y)
-started these y s = record { in-scope = s.in-scope; no-record = λ k d e. ap listsOf (s.no-record k d e) }
+started : (these : ℕ → ℕ → Bool) (y : Reply × Record) → StartReplies these y → StartedReplies these (started_of y)
+started these y s = record { in_scope = s.in_scope; no_record = λ k d e. ap lists_of (s.no_record k d e) }
 
-pub lists-starts : ListsStarts
-lists-starts =
+pub lists_starts : ListsStarts
+lists_starts =
     record {
       simplex = λ x o a. started _ _ (starts.simplex x o a);
       bfgs = λ x o a. started _ _ (starts.bfgs x o a);

@@ -6,39 +6,39 @@ use Rattle.protocol.specs.declared.GradientOptions.{GradientOptions}
 use Rattle.protocol.specs.declared.WolfeOptions.{WolfeOptions}
 use Rattle.protocol.specs.declared.Allowances.{Allowances}
 use Rattle.protocol.specs.Protocol.{Reply, refused}
-use Rattle.optim_record.specs.Record.{blankOf, validOf}
-use Rattle.optim_reply.specs.Standing.{standingOf}
-use Rattle.optim_rules.specs.Rules.{repeatsOf}
-use Rattle.optim_start.specs.Start.{differencesOf, simplexOf, searchOf, bfgsOf, lbfgsOf}
-use Rattle.optim_theory.specs.Replies.{Among, turnsAway, refusesAnswer, refusesSimplex, refusesBfgs, refusesLbfgs, refusesSearch, refusesDifferences}
+use Rattle.optim_record.specs.Record.{blank_of, valid_of}
+use Rattle.optim_reply.specs.Standing.{standing_of}
+use Rattle.optim_rules.specs.Rules.{repeats_of}
+use Rattle.optim_start.specs.Start.{differences_of, simplex_of, search_of, bfgs_of, lbfgs_of}
+use Rattle.optim_theory.specs.Replies.{Among, turns_away, refuses_answer, refuses_simplex, refuses_bfgs, refuses_lbfgs, refuses_search, refuses_differences}
 use Rattle.optim_lists.specs.Layout as place
-use Rattle.optim_lists.specs.Lists.{Lists, mark, recordOf, listsOf, formedOf}
-use Rattle.optim_lists.specs.Answered.{answeredOf, startedOf}
+use Rattle.optim_lists.specs.Lists.{Lists, mark, record_of, lists_of, formed_of}
+use Rattle.optim_lists.specs.Answered.{answered_of, started_of}
 
 -- ---- `Answers` of optim_theory, of every list of marks and numbers, and every number, letter and list of words
 
 pub record ListsAnswers : Type 0 where
-  pub in-scope : (l : Lists) (number kind : ℕ) (words : List Float) → Among refusesAnswer (answeredOf l number kind words).0
+  pub in_scope : (l : Lists) (number kind : ℕ) (words : List Float) → Among refuses_answer (answered_of l number kind words).0
   -- refused
-  pub refused-keeps : (l : Lists) (number kind : ℕ) (words : List Float) (k d : ℕ) → (answeredOf l number kind words).0 ≡ refused k d → T (turnsAway k) → (answeredOf l number kind words).1 ≡ l
+  pub refused_keeps : (l : Lists) (number kind : ℕ) (words : List Float) (k d : ℕ) → (answered_of l number kind words).0 ≡ refused k d → T (turns_away k) → (answered_of l number kind words).1 ≡ l
   -- a repeat brings again what stands
-  pub repeat-keeps : (l : Lists) (number kind : ℕ) (words : List Float) → formedOf l ≡ true → validOf (recordOf l) ≡ true → repeatsOf (mark l.marks place.accepted) number ≡ true
-      → ((answeredOf l number kind words).0 ≡ (standingOf (recordOf l)).0) × ((answeredOf l number kind words).1 ≡ l)
-  -- 1 before all else: a flag that is an unknown mark, then what `validOf` finds
-  pub unknown-flag : (l : Lists) (number kind : ℕ) (words : List Float) → formedOf l ≡ false → answeredOf l number kind words ≡ (refused 1 0, l)
-  pub out-of-range : (l : Lists) (number kind : ℕ) (words : List Float) → formedOf l ≡ true → validOf (recordOf l) ≡ false → answeredOf l number kind words ≡ (refused 1 0, l)
+  pub repeat_keeps : (l : Lists) (number kind : ℕ) (words : List Float) → formed_of l ≡ true → valid_of (record_of l) ≡ true → repeats_of (mark l.marks place.accepted) number ≡ true
+      → ((answered_of l number kind words).0 ≡ (standing_of (record_of l)).0) × ((answered_of l number kind words).1 ≡ l)
+  -- 1 before all else: a flag that is an unknown mark, then what `valid_of` finds
+  pub unknown_flag : (l : Lists) (number kind : ℕ) (words : List Float) → formed_of l ≡ false → answered_of l number kind words ≡ (refused 1 0, l)
+  pub out_of_range : (l : Lists) (number kind : ℕ) (words : List Float) → formed_of l ≡ true → valid_of (record_of l) ≡ false → answered_of l number kind words ≡ (refused 1 0, l)
 
 -- ---- starts
 
 -- the reply is of that scope, and a refused start leaves the blank record's lists
 pub record StartedReplies (these : ℕ → ℕ → Bool) (y : Reply × Lists) : Type 0 where
-  pub in-scope : Among these y.0
-  pub no-record : (k d : ℕ) → y.0 ≡ refused k d → y.1 ≡ listsOf blankOf
+  pub in_scope : Among these y.0
+  pub no_record : (k d : ℕ) → y.0 ≡ refused k d → y.1 ≡ lists_of blank_of
 
 pub record ListsStarts : Type 0 where
-  pub simplex : (x : List Float) (o : SimplexOptions) (a : Allowances) → StartedReplies refusesSimplex (startedOf (simplexOf x o a))
-  pub bfgs : (x : List Float) (o : GradientOptions) (a : Allowances) → StartedReplies refusesBfgs (startedOf (bfgsOf x o a))
-  pub lbfgs : (x : List Float) (o : GradientOptions) (a : Allowances) → StartedReplies refusesLbfgs (startedOf (lbfgsOf x o a))
+  pub simplex : (x : List Float) (o : SimplexOptions) (a : Allowances) → StartedReplies refuses_simplex (started_of (simplex_of x o a))
+  pub bfgs : (x : List Float) (o : GradientOptions) (a : Allowances) → StartedReplies refuses_bfgs (started_of (bfgs_of x o a))
+  pub lbfgs : (x : List Float) (o : GradientOptions) (a : Allowances) → StartedReplies refuses_lbfgs (started_of (lbfgs_of x o a))
   pub search : (x d : List Float) (f0 : Float) (g : List Float) (step : Float) (o : WolfeOptions) (gradients : Bool)
-      → StartedReplies refusesSearch (startedOf (searchOf x d f0 g step o gradients))
-  pub differences : (x : List Float) → StartedReplies refusesDifferences (startedOf (differencesOf x))
+      → StartedReplies refuses_search (started_of (search_of x d f0 g step o gradients))
+  pub differences : (x : List Float) → StartedReplies refuses_differences (started_of (differences_of x))

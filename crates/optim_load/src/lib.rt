@@ -4,7 +4,7 @@
 mod parts;
 
 ghost use Rattle.std.specs.Prelude.{◌≡◌};
-ghost use Rattle.optim_lists.specs.Lists.{lists, verticesFrom, pairsFrom, simplexFrom, lineFrom, lowFrom, highFrom, bestFrom, searchDifferencesFrom, searchFrom, firstDifferencesFrom, descentFrom, modelFrom, recordOf};
+ghost use Rattle.optim_lists.specs.Lists.{lists, vertices_from, pairs_from, simplex_from, line_from, low_from, high_from, best_from, search_differences_from, search_from, first_differences_from, descent_from, model_from, record_of};
 
 use linesearch::Search;
 use neldermead::Simplex;
@@ -22,7 +22,7 @@ fn load_simplex(
     points: &[[f64; 16]; 17],
     values: &[f64; 17],
 ) -> Simplex
-    ensures { result ≡ simplexFrom m.now w.now sx.now best.now centroid.now reflected.now (verticesFrom points.now values.now) }
+    ensures { result ≡ simplex_from m.now w.now sx.now best.now centroid.now reflected.now (vertices_from points.now values.now) }
 {
     let x = *sx;
     let at_best = *best;
@@ -42,7 +42,7 @@ fn load_search(
     ex: &[f64; 16],
     eg: &[f64; 16],
 ) -> Search
-    ensures { result ≡ searchFrom m.now w.now (lowFrom w.now) (highFrom w.now) (bestFrom w.now tx.now tg.now) (searchDifferencesFrom m.now w.now ex.now eg.now) }
+    ensures { result ≡ search_from m.now w.now (low_from w.now) (high_from w.now) (best_from w.now tx.now tg.now) (search_differences_from m.now w.now ex.now eg.now) }
 {
     let x = *tx;
     let g = *tg;
@@ -65,7 +65,7 @@ fn load_descent(
     ig: &[f64; 16],
     search: Search,
 ) -> Descent
-    ensures { result ≡ descentFrom m.now (lineFrom w.now lx.now lg.now ld.now) search (firstDifferencesFrom m.now w.now ix.now ig.now) }
+    ensures { result ≡ descent_from m.now (line_from w.now lx.now lg.now ld.now) search (first_differences_from m.now w.now ix.now ig.now) }
 {
     let x = *lx;
     let g = *lg;
@@ -85,7 +85,7 @@ fn load_model(
     changes: &[[f64; 16]; 16],
     factors: &[f64; 16],
 ) -> Model
-    ensures { result ≡ modelFrom m.now w.now h.now (pairsFrom steps.now changes.now factors.now) }
+    ensures { result ≡ model_from m.now w.now h.now (pairs_from steps.now changes.now factors.now) }
 {
     let matrix = *h;
     let ss = *steps;
@@ -121,7 +121,7 @@ pub fn load(
     changes: &[[f64; 16]; 16],
     factors: &[f64; 16],
 ) -> Record
-    ensures { result ≡ recordOf (lists m.now w.now dx.now dg.now sx.now best.now centroid.now reflected.now points.now values.now lx.now lg.now ld.now tx.now tg.now ex.now eg.now ix.now ig.now h.now steps.now changes.now factors.now) }
+    ensures { result ≡ record_of (lists m.now w.now dx.now dg.now sx.now best.now centroid.now reflected.now points.now values.now lx.now lg.now ld.now tx.now tg.now ex.now eg.now ix.now ig.now h.now steps.now changes.now factors.now) }
 {
     let options = parts::options(m, w);
     let gradient = parts::gradient_options(m, w);

@@ -1,6 +1,6 @@
 // The parts of a record, each from the marks, the numbers and its own arrays, by the places of the layout.
 ghost use Rattle.std.specs.Prelude.{◌≡◌};
-ghost use Rattle.optim_lists.specs.Lists.{verticesFrom, pairsFrom, optionsFrom, gradientOptionsFrom, differencesFrom, simplexFrom, lineFrom, lowFrom, highFrom, bestFrom, searchDifferencesFrom, searchFrom, firstDifferencesFrom, descentFrom, modelFrom};
+ghost use Rattle.optim_lists.specs.Lists.{vertices_from, pairs_from, options_from, gradient_options_from, differences_from, simplex_from, line_from, low_from, high_from, best_from, search_differences_from, search_from, first_differences_from, descent_from, model_from};
 
 use linesearch::Search;
 use linesearch_trials::{Evaluation, Line, Trial};
@@ -15,7 +15,7 @@ use quasinewton_record::Descent;
 
 // Points and values as vertices.
 pub fn vertices(xs: [[f64; 16]; 17], fs: [f64; 17]) -> [Vertex; 17]
-    ensures { result ≡ verticesFrom xs fs }
+    ensures { result ≡ vertices_from xs fs }
 {
     let zeros = [0.0; 16];
     let none = Vertex { x: zeros, f: 0.0 };
@@ -32,7 +32,7 @@ pub fn vertices(xs: [[f64; 16]; 17], fs: [f64; 17]) -> [Vertex; 17]
 
 // Steps, changes and factors as pairs.
 pub fn pairs(ss: [[f64; 16]; 16], ys: [[f64; 16]; 16], rs: [f64; 16]) -> [Pair; 16]
-    ensures { result ≡ pairsFrom ss ys rs }
+    ensures { result ≡ pairs_from ss ys rs }
 {
     let zeros = [0.0; 16];
     let none = Pair {
@@ -53,7 +53,7 @@ pub fn pairs(ss: [[f64; 16]; 16], ys: [[f64; 16]; 16], rs: [f64; 16]) -> [Pair; 
 }
 
 pub fn options(m: &[u64; 36], w: &[f64; 28]) -> SimplexOptions
-    ensures { result ≡ optionsFrom m.now w.now }
+    ensures { result ≡ options_from m.now w.now }
 {
     SimplexOptions {
         xtol: w[0],
@@ -65,7 +65,7 @@ pub fn options(m: &[u64; 36], w: &[f64; 28]) -> SimplexOptions
 }
 
 pub fn gradient_options(m: &[u64; 36], w: &[f64; 28]) -> GradientOptions
-    ensures { result ≡ gradientOptionsFrom m.now w.now }
+    ensures { result ≡ gradient_options_from m.now w.now }
 {
     let wolfe = WolfeOptions {
         c1: w[6],
@@ -84,7 +84,7 @@ pub fn gradient_options(m: &[u64; 36], w: &[f64; 28]) -> GradientOptions
 }
 
 pub fn differences(m: &[u64; 36], w: &[f64; 28], x: [f64; 16], g: [f64; 16]) -> Differences
-    ensures { result ≡ differencesFrom m.now w.now x g }
+    ensures { result ≡ differences_from m.now w.now x g }
 {
     Differences {
         at: m[10] as usize,
@@ -104,7 +104,7 @@ pub fn simplex(
     reflected: [f64; 16],
     v: [Vertex; 17],
 ) -> Simplex
-    ensures { result ≡ simplexFrom m.now w.now x best cen reflected v }
+    ensures { result ≡ simplex_from m.now w.now x best cen reflected v }
 {
     let best = Vertex { x: best, f: w[10] };
     let refl = Vertex {
@@ -125,7 +125,7 @@ pub fn simplex(
 }
 
 pub fn line(w: &[f64; 28], x: [f64; 16], g: [f64; 16], d: [f64; 16]) -> Line
-    ensures { result ≡ lineFrom w.now x g d }
+    ensures { result ≡ line_from w.now x g d }
 {
     Line {
         x,
@@ -137,7 +137,7 @@ pub fn line(w: &[f64; 28], x: [f64; 16], g: [f64; 16], d: [f64; 16]) -> Line
 }
 
 pub fn low(w: &[f64; 28]) -> Trial
-    ensures { result ≡ lowFrom w.now }
+    ensures { result ≡ low_from w.now }
 {
     Trial {
         step: w[14],
@@ -147,7 +147,7 @@ pub fn low(w: &[f64; 28]) -> Trial
 }
 
 pub fn high(w: &[f64; 28]) -> Trial
-    ensures { result ≡ highFrom w.now }
+    ensures { result ≡ high_from w.now }
 {
     Trial {
         step: w[17],
@@ -157,7 +157,7 @@ pub fn high(w: &[f64; 28]) -> Trial
 }
 
 pub fn best(w: &[f64; 28], x: [f64; 16], g: [f64; 16]) -> Evaluation
-    ensures { result ≡ bestFrom w.now x g }
+    ensures { result ≡ best_from w.now x g }
 {
     let trial = Trial {
         step: w[22],
@@ -168,7 +168,7 @@ pub fn best(w: &[f64; 28], x: [f64; 16], g: [f64; 16]) -> Evaluation
 }
 
 pub fn search_differences(m: &[u64; 36], w: &[f64; 28], x: [f64; 16], g: [f64; 16]) -> Differences
-    ensures { result ≡ searchDifferencesFrom m.now w.now x g }
+    ensures { result ≡ search_differences_from m.now w.now x g }
 {
     Differences {
         at: m[21] as usize,
@@ -187,7 +187,7 @@ pub fn search(
     best: Evaluation,
     diff: Differences,
 ) -> Search
-    ensures { result ≡ searchFrom m.now w.now lo hi best diff }
+    ensures { result ≡ search_from m.now w.now lo hi best diff }
 {
     Search {
         phase: m[19],
@@ -205,7 +205,7 @@ pub fn search(
 }
 
 pub fn first_differences(m: &[u64; 36], w: &[f64; 28], x: [f64; 16], g: [f64; 16]) -> Differences
-    ensures { result ≡ firstDifferencesFrom m.now w.now x g }
+    ensures { result ≡ first_differences_from m.now w.now x g }
 {
     Differences {
         at: m[22] as usize,
@@ -217,7 +217,7 @@ pub fn first_differences(m: &[u64; 36], w: &[f64; 28], x: [f64; 16], g: [f64; 16
 }
 
 pub fn descent(m: &[u64; 36], line: Line, search: Search, diff: Differences) -> Descent
-    ensures { result ≡ descentFrom m.now line search diff }
+    ensures { result ≡ descent_from m.now line search diff }
 {
     Descent {
         phase: m[15],
@@ -232,7 +232,7 @@ pub fn descent(m: &[u64; 36], line: Line, search: Search, diff: Differences) -> 
 }
 
 pub fn model(m: &[u64; 36], w: &[f64; 28], h: [f64; 256], p: [Pair; 16]) -> Model
-    ensures { result ≡ modelFrom m.now w.now h p }
+    ensures { result ≡ model_from m.now w.now h p }
 {
     let dense = Dense {
         fresh: m[35] != 0,

@@ -1,4 +1,4 @@
--- The tests that `valid` makes of a part of a record, each with what it means: `simplex-part`, `bare-part`, `descent-part`, `whole`. Assumes nothing.
+-- The tests that `valid` makes of a part of a record, each with what it means: `simplex_part`, `bare_part`, `descent_part`, `whole`. Assumes nothing.
 use Prim.Native.Nat.{ℕ, ◌≤◌, ◌<◌}
 use native.Mathlib.Omega.{arith}
 use mathlib.Core.Path.{◌≡◌, refl, sym, ◌∙◌, ap}
@@ -6,11 +6,11 @@ use mathlib.Core.Bool.{Bool, true, false, not, cond, true≢false}
 use mathlib.Core.Logic.{◌⊎◌, inl, inr, ⊎_elim, ◌↔◌}
 use mathlib.Core.List.{List, [], ◌∷◌}
 use lib.Dec.{eqb, ltb, leb}
-use borrow.Author.Tests.{ltb-false, leb-true, eqb-true, eqb-false, not-true, not-false, le-ltb, le-leb, eq-eqb, ne_eqb}
+use borrow.Author.Tests.{ltb-false, leb-true, eqb_true, eqb-false, not-true, not-false, le-ltb, le-leb, eq-eqb, ne_eqb}
 use Rattle.quasinewton_record.specs.declared.Descent.{Descent}
 use Rattle.optim_record.specs.declared.Record.{Record}
-use Rattle.optim_record.specs.Record.{noLimit, gradientJobOf, validSimplexOf, validSearchPartOf, validSearchOf, knownRefusalOf, validEndingOf, validOptionsOf, validModelOf, validDescentOf, validOf}
-use Rattle.protocol.specs.Protocol.{simplexMark, bfgsMark, lbfgsMark, searchMark, differencesMark}
+use Rattle.optim_record.specs.Record.{no_limit, gradient_job_of, valid_simplex_of, valid_search_part_of, valid_search_of, known_refusal_of, valid_ending_of, valid_options_of, valid_model_of, valid_descent_of, valid_of}
+use Rattle.protocol.specs.Protocol.{simplex_mark, bfgs_mark, lbfgs_mark, search_mark, differences_mark}
 use Rattle.optim_record.specs.Refusal1.{Descends, OneOf, EndingMark}
 
 -- ---- tests, each with what it means
@@ -28,21 +28,21 @@ either false x p q = (λ e. inr (q.0 e), λ h. ⊎_elim (λ a. absurd (true≢fa
 denied : {A : Type 0} (b : Bool) → (b ≡ true) ↔ A → (not b ≡ false) ↔ A
 denied b p = (λ e. p.0 (not-false b e), λ h. ap not (p.1 h))
 
-at-most : (a b : ℕ) → (ltb b a ≡ false) ↔ (a ≤ b)
-at-most a b = (ltb-false b a, le-ltb b a)
+at_most : (a b : ℕ) → (ltb b a ≡ false) ↔ (a ≤ b)
+at_most a b = (ltb-false b a, le-ltb b a)
 
-last-at-most : (a b : ℕ) → (leb a b ≡ true) ↔ (a ≤ b)
-last-at-most a b = (leb-true a b, le-leb a b)
+last_at_most : (a b : ℕ) → (leb a b ≡ true) ↔ (a ≤ b)
+last_at_most a b = (leb-true a b, le-leb a b)
 
 some : (k : ℕ) → (eqb k 0 ≡ false) ↔ (0 < k)
 some k = (λ e. omega (arith, eqb-false k 0 e), λ h. ne_eqb k 0 (λ e. omega arith))
 
 equal : (a b : ℕ) → (eqb a b ≡ true) ↔ (a ≡ b)
-equal a b = (eqb-true a b, eq-eqb a b)
+equal a b = (eqb_true a b, eq-eqb a b)
 
 -- the last of a list
 last : (a b : ℕ) → (eqb a b ≡ true) ↔ OneOf a (b ∷ [])
-last a b = (λ e. inl (eqb-true a b e), λ h. ⊎_elim (eq-eqb a b) (λ n. absurd n) h)
+last a b = (λ e. inl (eqb_true a b e), λ h. ⊎_elim (eq-eqb a b) (λ n. absurd n) h)
 
 -- ---- numbers that are none of a list
 
@@ -62,16 +62,16 @@ module _ (k d : ℕ) where
   details : (cond (eqb d 1) true (eqb d 2) ≡ true) ↔ OneOf d (1 ∷ 2 ∷ [])
   details = either _ _ (equal d 1) (last d 2)
 
-  to-four : (cond (eqb d 0) false (leb d 4) ≡ true) ↔ OneOf d (1 ∷ 2 ∷ 3 ∷ 4 ∷ [])
-  to-four = (λ e. up ((both _ _ (some d) (last-at-most d 4)).0 e), λ h. (both _ _ (some d) (last-at-most d 4)).1 (down h))
+  to_four : (cond (eqb d 0) false (leb d 4) ≡ true) ↔ OneOf d (1 ∷ 2 ∷ 3 ∷ 4 ∷ [])
+  to_four = (λ e. up ((both _ _ (some d) (last_at_most d 4)).0 e), λ h. (both _ _ (some d) (last_at_most d 4)).1 (down h))
     where
       up : (0 < d) × (d ≤ 4) → OneOf d (1 ∷ 2 ∷ 3 ∷ 4 ∷ [])
       up h = go (eqb d 1) refl (eqb d 2) refl (eqb d 3) refl
         where
           go : (a : Bool) → eqb d 1 ≡ a → (b : Bool) → eqb d 2 ≡ b → (c : Bool) → eqb d 3 ≡ c → OneOf d (1 ∷ 2 ∷ 3 ∷ 4 ∷ [])
-          go true i b j c l = inl (eqb-true d 1 i)
-          go false i true j c l = inr (inl (eqb-true d 2 j))
-          go false i false j true l = inr (inr (inl (eqb-true d 3 l)))
+          go true i b j c l = inl (eqb_true d 1 i)
+          go false i true j c l = inr (inl (eqb_true d 2 j))
+          go false i false j true l = inr (inr (inl (eqb_true d 3 l)))
           go false i false j false l = inr (inr (inr (inl (omega (arith, h.0, h.1, eqb-false d 1 i, eqb-false d 2 j, eqb-false d 3 l)))))
 
       down : OneOf d (1 ∷ 2 ∷ 3 ∷ 4 ∷ []) → (0 < d) × (d ≤ 4)
@@ -89,8 +89,8 @@ module _ (k d : ℕ) where
       both _ _ (denied _ (equal d 0))
       (either _ _ (equal k 6) (either _ _ (equal k 7) (either _ _ (equal k 13) (either _ _ (equal k 14) (either _ _ (equal k 18) (last k 19))))))
 
-  pub known : (knownRefusalOf k d ≡ true) ↔ EndingMark k d
-  unfolding knownRefusalOf missing
+  pub known : (known_refusal_of k d ≡ true) ↔ EndingMark k d
+  unfolding known_refusal_of missing
   known = (there (eqb k 5) refl (eqb k 12) refl, back)
     where
       enders : List ℕ
@@ -100,143 +100,143 @@ module _ (k d : ℕ) where
       by a b = cond a (cond (eqb d 1) true (eqb d 2)) (cond b (cond (eqb d 0) false (leb d 4)) (cond (not (eqb d 0)) false numbers))
 
       there : (a : Bool) → eqb k 5 ≡ a → (b : Bool) → eqb k 12 ≡ b → by a b ≡ true → EndingMark k d
-      there true i b j e = inl (eqb-true k 5 i, details.0 e)
-      there false i true j e = inr (inl (eqb-true k 12 j, to-four.0 e))
+      there true i b j e = inl (eqb_true k 5 i, details.0 e)
+      there false i true j e = inr (inl (eqb_true k 12 j, to_four.0 e))
       there false i false j e = inr (inr (others.0 e))
 
-      back : EndingMark k d → knownRefusalOf k d ≡ true
+      back : EndingMark k d → known_refusal_of k d ≡ true
       back (inl h) = rw (eq-eqb k 5 h.0) (details.1 h.1)
-      back (inr (inl h)) = rw (ne_eqb k 5 (λ e. omega (arith, h.0)), eq-eqb k 12 h.0) (to-four.1 h.1)
+      back (inr (inl h)) = rw (ne_eqb k 5 (λ e. omega (arith, h.0)), eq-eqb k 12 h.0) (to_four.1 h.1)
       back (inr (inr h)) = rw (ne_eqb k 5 (apart k 5 enders refl h.1), ne_eqb k 12 (apart k 12 enders refl h.1)) (others.1 h)
 
-pub ending-part : (d : Descent) → (validEndingOf d ≡ true) ↔ (d.phase ≡ 12 → EndingMark d.number d.detail)
-unfolding validEndingOf
-ending-part d = go (eqb d.phase 12) refl
+pub ending_part : (d : Descent) → (valid_ending_of d ≡ true) ↔ (d.phase ≡ 12 → EndingMark d.number d.detail)
+unfolding valid_ending_of
+ending_part d = go (eqb d.phase 12) refl
   where
-    go : (b : Bool) → eqb d.phase 12 ≡ b → (cond b (knownRefusalOf d.number d.detail) true ≡ true) ↔ (d.phase ≡ 12 → EndingMark d.number d.detail)
-    go true i = (λ e p. (known d.number d.detail).0 e, λ h. (known d.number d.detail).1 (h (eqb-true _ _ i)))
+    go : (b : Bool) → eqb d.phase 12 ≡ b → (cond b (known_refusal_of d.number d.detail) true ≡ true) ↔ (d.phase ≡ 12 → EndingMark d.number d.detail)
+    go true i = (λ e p. (known d.number d.detail).0 e, λ h. (known d.number d.detail).1 (h (eqb_true _ _ i)))
     go false i = (λ e p. absurd (eqb-false _ _ i p), λ h. refl)
 
 -- ---- each part
 
 -- of a simplex fit
 pub record SimplexPart (r : Record) : Type 0 where
-  pub some-n : 0 < r.n
+  pub some_n : 0 < r.n
   pub vertex : r.simplex.at ≤ r.n
-  pub phase-low : 0 < r.simplex.phase
-  pub phase-high : r.simplex.phase ≤ 11
+  pub phase_low : 0 < r.simplex.phase
+  pub phase_high : r.simplex.phase ≤ 11
   pub rounds : r.simplex.rounds ≤ 40000000000
   pub runs : r.simplex.runs ≤ 40000000000
   pub iter : r.limits.iter ≤ 1000000
   pub fevals : r.limits.fevals ≤ 1000000
   pub restarts : r.options.restarts ≤ 100
 
-pub simplex-part : (r : Record) → (validSimplexOf r ≡ true) ↔ SimplexPart r
-unfolding validSimplexOf
-simplex-part r =
+pub simplex_part : (r : Record) → (valid_simplex_of r ≡ true) ↔ SimplexPart r
+unfolding valid_simplex_of
+simplex_part r =
     let s = r.simplex in
     let t =
     both _ _ (some r.n)
-    (both _ _ (at-most s.at r.n)
+    (both _ _ (at_most s.at r.n)
     (both _ _ (some s.phase)
-    (both _ _ (at-most s.phase 11)
-    (both _ _ (at-most s.rounds 40000000000)
-    (both _ _ (at-most s.runs 40000000000)
-    (both _ _ (at-most r.limits.iter 1000000) (both _ _ (at-most r.limits.fevals 1000000) (last-at-most r.options.restarts 100)))))))) in (
+    (both _ _ (at_most s.phase 11)
+    (both _ _ (at_most s.rounds 40000000000)
+    (both _ _ (at_most s.runs 40000000000)
+    (both _ _ (at_most r.limits.iter 1000000) (both _ _ (at_most r.limits.fevals 1000000) (last_at_most r.options.restarts 100)))))))) in (
       λ e.
           let (n, (v, (l, (h, (k, (u, (i, (f, m)))))))) = t.0 e in
-          record { some-n = n; vertex = v; phase-low = l; phase-high = h; rounds = k; runs = u; iter = i; fevals = f; restarts = m },
-      λ p. t.1 (p.some-n, (p.vertex, (p.phase-low, (p.phase-high, (p.rounds, (p.runs, (p.iter, (p.fevals, p.restarts)))))))),
+          record { some_n = n; vertex = v; phase_low = l; phase_high = h; rounds = k; runs = u; iter = i; fevals = f; restarts = m },
+      λ p. t.1 (p.some_n, (p.vertex, (p.phase_low, (p.phase_high, (p.rounds, (p.runs, (p.iter, (p.fevals, p.restarts)))))))),
     )
 
 -- of a search
 pub record SearchPart (r : Record) : Type 0 where
-  pub phase-low : 0 < r.descent.search.phase
-  pub phase-high : r.descent.search.phase ≤ 5
+  pub phase_low : 0 < r.descent.search.phase
+  pub phase_high : r.descent.search.phase ≤ 5
   pub evals : r.gradient.wolfe.evals ≤ 1000
   pub trials : r.descent.search.trials ≤ r.gradient.wolfe.evals
   pub at : r.descent.search.diff.at ≤ r.n
 
-search-part : (r : Record) → (validSearchPartOf r ≡ true) ↔ SearchPart r
-unfolding validSearchPartOf
-search-part r =
+search_part : (r : Record) → (valid_search_part_of r ≡ true) ↔ SearchPart r
+unfolding valid_search_part_of
+search_part r =
     let s = r.descent.search in
     let e = r.gradient.wolfe.evals in
     let t =
-    both _ _ (some s.phase) (both _ _ (at-most s.phase 5) (both _ _ (at-most e 1000) (both _ _ (at-most s.trials e) (last-at-most s.diff.at r.n)))) in (
-      λ z. let (l, (h, (m, (k, a)))) = t.0 z in record { phase-low = l; phase-high = h; evals = m; trials = k; at = a },
-      λ p. t.1 (p.phase-low, (p.phase-high, (p.evals, (p.trials, p.at)))),
+    both _ _ (some s.phase) (both _ _ (at_most s.phase 5) (both _ _ (at_most e 1000) (both _ _ (at_most s.trials e) (last_at_most s.diff.at r.n)))) in (
+      λ z. let (l, (h, (m, (k, a)))) = t.0 z in record { phase_low = l; phase_high = h; evals = m; trials = k; at = a },
+      λ p. t.1 (p.phase_low, (p.phase_high, (p.evals, (p.trials, p.at)))),
     )
 
 -- of the job search
 pub record BarePart (r : Record) : Type 0 where
-  pub some-n : 0 < r.n
+  pub some_n : 0 < r.n
   pub phase : r.descent.phase ≡ 4
   pub search : SearchPart r
 
-pub bare-part : (r : Record) → (validSearchOf r ≡ true) ↔ BarePart r
-unfolding validSearchOf
-bare-part r =
-    let t = both _ _ (some r.n) (both _ _ (denied _ (equal r.descent.phase 4)) (search-part r)) in
-    (λ e. let (n, (p, s)) = t.0 e in record { some-n = n; phase = p; search = s }, λ p. t.1 (p.some-n, (p.phase, p.search)))
+pub bare_part : (r : Record) → (valid_search_of r ≡ true) ↔ BarePart r
+unfolding valid_search_of
+bare_part r =
+    let t = both _ _ (some r.n) (both _ _ (denied _ (equal r.descent.phase 4)) (search_part r)) in
+    (λ e. let (n, (p, s)) = t.0 e in record { some_n = n; phase = p; search = s }, λ p. t.1 (p.some_n, (p.phase, p.search)))
 
 -- of a gradient fit's model
 pub record ModelPart (r : Record) : Type 0 where
-  pub dense : r.job ≡ bfgsMark → r.model.limited ≡ false
-  pub limited : r.job ≡ lbfgsMark → r.model.limited ≡ true
-  pub most : r.job ≡ lbfgsMark → r.gradient.memory ≤ 16
-  pub copy : r.job ≡ lbfgsMark → r.model.memory ≡ r.gradient.memory
-  pub pairs : r.job ≡ lbfgsMark → r.model.pairs.count ≤ r.gradient.memory
+  pub dense : r.job ≡ bfgs_mark → r.model.limited ≡ false
+  pub limited : r.job ≡ lbfgs_mark → r.model.limited ≡ true
+  pub most : r.job ≡ lbfgs_mark → r.gradient.memory ≤ 16
+  pub copy : r.job ≡ lbfgs_mark → r.model.memory ≡ r.gradient.memory
+  pub pairs : r.job ≡ lbfgs_mark → r.model.pairs.count ≤ r.gradient.memory
 
-model-part : (r : Record) → Descends r → (validModelOf r ≡ true) ↔ ModelPart r
-unfolding validModelOf
-model-part r (inl i) =
-    let other : r.job ≡ lbfgsMark → ⊥ = λ k. omega arith in
-    rw (eq-eqb r.job bfgsMark i) (
+model_part : (r : Record) → Descends r → (valid_model_of r ≡ true) ↔ ModelPart r
+unfolding valid_model_of
+model_part r (inl i) =
+    let other : r.job ≡ lbfgs_mark → ⊥ = λ k. omega arith in
+    rw (eq-eqb r.job bfgs_mark i) (
       λ e. record { dense = λ k. not-true _ e; limited = λ k. absurd (other k); most = λ k. absurd (other k); copy = λ k. absurd (other k); pairs = λ k. absurd (other k) },
       λ p. ap not (p.dense i),
     )
-model-part r (inr i) =
-    let other : r.job ≡ bfgsMark → ⊥ = λ k. omega arith in
+model_part r (inr i) =
+    let other : r.job ≡ bfgs_mark → ⊥ = λ k. omega arith in
     let o = r.gradient.memory in
-    let t = both _ _ (denied r.model.limited (λ e. e, λ e. e)) (both _ _ (at-most o 16) (both _ _ (denied _ (equal r.model.memory o)) (last-at-most r.model.pairs.count o))) in
-    rw (ne_eqb r.job bfgsMark other) (
+    let t = both _ _ (denied r.model.limited (λ e. e, λ e. e)) (both _ _ (at_most o 16) (both _ _ (denied _ (equal r.model.memory o)) (last_at_most r.model.pairs.count o))) in
+    rw (ne_eqb r.job bfgs_mark other) (
       λ e. let (l, (m, (c, k))) = t.0 e in record { dense = λ j. absurd (other j); limited = λ j. l; most = λ j. m; copy = λ j. c; pairs = λ j. k },
       λ p. t.1 (p.limited i, (p.most i, (p.copy i, p.pairs i))),
     )
 
 -- of a gradient fit
 pub record DescentPart (r : Record) : Type 0 where
-  pub some-n : 0 < r.n
-  pub phase-low : 0 < r.descent.phase
-  pub phase-high : r.descent.phase ≤ 12
+  pub some_n : 0 < r.n
+  pub phase_low : 0 < r.descent.phase
+  pub phase_high : r.descent.phase ≤ 12
   pub ending : r.descent.phase ≡ 12 → EndingMark r.descent.number r.descent.detail
   pub rounds : r.descent.rounds ≤ 40000000000
   pub at : r.descent.diff.at ≤ r.n
   pub iter : r.limits.iter ≤ 1000000
-  pub fevals : (r.limits.fevals ≡ noLimit) ⊎ (r.limits.fevals ≤ 1000000)
+  pub fevals : (r.limits.fevals ≡ no_limit) ⊎ (r.limits.fevals ≤ 1000000)
   pub model : ModelPart r
   pub search : SearchPart r
 
-allowances : (r : Record) → (validOptionsOf r ≡ true) ↔ ((r.limits.iter ≤ 1000000) × ((r.limits.fevals ≡ noLimit) ⊎ (r.limits.fevals ≤ 1000000)))
-unfolding validOptionsOf
-allowances r = both _ _ (at-most r.limits.iter 1000000) (either _ _ (equal r.limits.fevals noLimit) (last-at-most r.limits.fevals 1000000))
+allowances : (r : Record) → (valid_options_of r ≡ true) ↔ ((r.limits.iter ≤ 1000000) × ((r.limits.fevals ≡ no_limit) ⊎ (r.limits.fevals ≤ 1000000)))
+unfolding valid_options_of
+allowances r = both _ _ (at_most r.limits.iter 1000000) (either _ _ (equal r.limits.fevals no_limit) (last_at_most r.limits.fevals 1000000))
 
-pub descent-part : (r : Record) → Descends r → (validDescentOf r ≡ true) ↔ DescentPart r
-unfolding validDescentOf
-descent-part r j =
+pub descent_part : (r : Record) → Descends r → (valid_descent_of r ≡ true) ↔ DescentPart r
+unfolding valid_descent_of
+descent_part r j =
     let q = r.descent in
     let t =
     both _ _ (some r.n)
     (both _ _ (some q.phase)
-    (both _ _ (at-most q.phase 12)
-    (both _ _ (denied _ (ending-part q))
-    (both _ _ (at-most q.rounds 40000000000)
-    (both _ _ (at-most q.diff.at r.n) (both _ _ (denied _ (allowances r)) (both _ _ (denied _ (model-part r j)) (search-part r)))))))) in (
+    (both _ _ (at_most q.phase 12)
+    (both _ _ (denied _ (ending_part q))
+    (both _ _ (at_most q.rounds 40000000000)
+    (both _ _ (at_most q.diff.at r.n) (both _ _ (denied _ (allowances r)) (both _ _ (denied _ (model_part r j)) (search_part r)))))))) in (
       λ e.
           let (n, (l, (h, (y, (k, (a, (o, (m, s)))))))) = t.0 e in
-          record { some-n = n; phase-low = l; phase-high = h; ending = y; rounds = k; at = a; iter = o.0; fevals = o.1; model = m; search = s },
-      λ p. t.1 (p.some-n, (p.phase-low, (p.phase-high, (p.ending, (p.rounds, (p.at, ((p.iter, p.fevals), (p.model, p.search)))))))),
+          record { some_n = n; phase_low = l; phase_high = h; ending = y; rounds = k; at = a; iter = o.0; fevals = o.1; model = m; search = s },
+      λ p. t.1 (p.some_n, (p.phase_low, (p.phase_high, (p.ending, (p.rounds, (p.at, ((p.iter, p.fevals), (p.model, p.search)))))))),
     )
 
 -- of every record
@@ -247,19 +247,19 @@ pub record Common (r : Record) : Type 0 where
   pub gevals : r.counts.gevals ≤ 40000000000
 
 -- what a job's own tests come to
-abbrev pub by-job : Record → Bool
-by-job r =
-    cond (eqb r.job simplexMark) (validSimplexOf r)
-    (cond (eqb r.job searchMark) (validSearchOf r)
-    (cond (gradientJobOf r.job) (validDescentOf r) (cond (eqb r.job differencesMark) (leb r.diff.at r.n) false)))
+abbrev pub by_job : Record → Bool
+by_job r =
+    cond (eqb r.job simplex_mark) (valid_simplex_of r)
+    (cond (eqb r.job search_mark) (valid_search_of r)
+    (cond (gradient_job_of r.job) (valid_descent_of r) (cond (eqb r.job differences_mark) (leb r.diff.at r.n) false)))
 
-pub whole : (r : Record) → (validOf r ≡ true) ↔ (Common r × (by-job r ≡ true))
-unfolding validOf
+pub whole : (r : Record) → (valid_of r ≡ true) ↔ (Common r × (by_job r ≡ true))
+unfolding valid_of
 whole r =
     let t =
-    both _ _ (at-most r.n 16)
-    (both _ _ (at-most r.accepted 40000000000)
-    (both _ _ (at-most r.counts.fevals 40000000000) (both {B = by-job r ≡ true} _ _ (at-most r.counts.gevals 40000000000) (λ e. e, λ e. e)))) in (
+    both _ _ (at_most r.n 16)
+    (both _ _ (at_most r.accepted 40000000000)
+    (both _ _ (at_most r.counts.fevals 40000000000) (both {B = by_job r ≡ true} _ _ (at_most r.counts.gevals 40000000000) (λ e. e, λ e. e)))) in (
       λ e. let (n, (a, (f, (g, j)))) = t.0 e in (record { few = n; accepted = a; fevals = f; gevals = g }, j),
       λ p. t.1 (p.0.few, (p.0.accepted, (p.0.fevals, (p.0.gevals, p.1)))),
     )

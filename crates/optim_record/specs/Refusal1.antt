@@ -2,35 +2,35 @@
 -- max_evals, an option past 2's limits, an unknown mark or any count above 4·10^10." Of a record the parts that its job uses count. Definitions and statements only.
 use Rattle.std.specs.Prelude.{ℕ, ◌≤◌, ◌<◌, ◌≡◌, true, false, ◌⊎◌, ◌↔◌, List, [], ◌∷◌}
 use Rattle.optim_record.specs.declared.Record.{Record}
-use Rattle.optim_record.specs.Record.{validOf}
-use Rattle.protocol.specs.Protocol.{simplexMark, bfgsMark, lbfgsMark, searchMark, differencesMark}
+use Rattle.optim_record.specs.Record.{valid_of}
+use Rattle.protocol.specs.Protocol.{simplex_mark, bfgs_mark, lbfgs_mark, search_mark, differences_mark}
 
 -- ---- the parts that a job uses
 
 -- the simplex: simplex fits. The descent and its model: the gradient fits. The search: those, and the job search. The differences of the record itself: the job differences.
 abbrev pub Descends : Record → Type 0
-Descends r = (r.job ≡ bfgsMark) ⊎ (r.job ≡ lbfgsMark)
+Descends r = (r.job ≡ bfgs_mark) ⊎ (r.job ≡ lbfgs_mark)
 
 abbrev pub Searches : Record → Type 0
-Searches r = Descends r ⊎ (r.job ≡ searchMark)
+Searches r = Descends r ⊎ (r.job ≡ search_mark)
 
 -- ---- 01's phrases
 
 -- "n above 16 (or 0, other than for differences)"
 pub record UnknownsWithin (r : Record) : Type 0 where
   pub most : r.n ≤ 16
-  pub some : (r.job ≡ differencesMark → ⊥) → 0 < r.n
+  pub some : (r.job ≡ differences_mark → ⊥) → 0 < r.n
 
 -- "a position above n": the vertex that a simplex is at, the coordinate that differences are at, for the first gradient, for a trial's, and of the job itself
 pub record PositionsWithin (r : Record) : Type 0 where
-  pub vertex : r.job ≡ simplexMark → r.simplex.at ≤ r.n
-  pub first-gradient : Descends r → r.descent.diff.at ≤ r.n
+  pub vertex : r.job ≡ simplex_mark → r.simplex.at ≤ r.n
+  pub first_gradient_lem : Descends r → r.descent.diff.at ≤ r.n
   pub trial : Searches r → r.descent.search.diff.at ≤ r.n
-  pub coordinate : r.job ≡ differencesMark → r.diff.at ≤ r.n
+  pub coordinate : r.job ≡ differences_mark → r.diff.at ≤ r.n
 
 -- "more pairs than memory"
 abbrev pub PairsWithin : Record → Type 0
-PairsWithin r = r.job ≡ lbfgsMark → r.model.pairs.count ≤ r.gradient.memory
+PairsWithin r = r.job ≡ lbfgs_mark → r.model.pairs.count ≤ r.gradient.memory
 
 -- "a line-search trial count above max_evals"
 abbrev pub TrialsWithin : Record → Type 0
@@ -39,12 +39,12 @@ TrialsWithin r = Searches r → r.descent.search.trials ≤ r.gradient.wolfe.eva
 -- "an option past 2's limits": "memory is above 16, an allowance above 1,000,000, max_evals above 1,000 or restarts above 100"; "bfgs ignores memory, here and in 2".
 -- Where a gradient fit has no max_fevals, its record has the Rust's usize::MAX
 pub record OptionsWithin (r : Record) : Type 0 where
-  pub memory : r.job ≡ lbfgsMark → r.gradient.memory ≤ 16
-  pub iter : (r.job ≡ simplexMark) ⊎ Descends r → r.limits.iter ≤ 1000000
-  pub fevals : r.job ≡ simplexMark → r.limits.fevals ≤ 1000000
-  pub gradient-fevals : Descends r → (r.limits.fevals ≡ 0xffff_ffff_ffff_ffff) ⊎ (r.limits.fevals ≤ 1000000)
+  pub memory : r.job ≡ lbfgs_mark → r.gradient.memory ≤ 16
+  pub iter : (r.job ≡ simplex_mark) ⊎ Descends r → r.limits.iter ≤ 1000000
+  pub fevals : r.job ≡ simplex_mark → r.limits.fevals ≤ 1000000
+  pub gradient_fevals : Descends r → (r.limits.fevals ≡ 0xffff_ffff_ffff_ffff) ⊎ (r.limits.fevals ≤ 1000000)
   pub evals : Searches r → r.gradient.wolfe.evals ≤ 1000
-  pub restarts : r.job ≡ simplexMark → r.options.restarts ≤ 100
+  pub restarts : r.job ≡ simplex_mark → r.options.restarts ≤ 100
 
 -- one of the numbers of a list
 abbrev pub OneOf : ℕ → List ℕ → Type 0
@@ -66,14 +66,14 @@ EndingMark number detail =
 -- Of every other flag both values are known, as starts or moves write both: adaptive, gradients, forward of differences, first of a descent, zooming, previous and kept of a search, and
 -- fresh of a dense model.
 pub record MarksKnown (r : Record) : Type 0 where
-  pub job : OneOf r.job (simplexMark ∷ bfgsMark ∷ lbfgsMark ∷ searchMark ∷ differencesMark ∷ [])
-  pub simplex : r.job ≡ simplexMark → (1 ≤ r.simplex.phase) × (r.simplex.phase ≤ 11)
+  pub job : OneOf r.job (simplex_mark ∷ bfgs_mark ∷ lbfgs_mark ∷ search_mark ∷ differences_mark ∷ [])
+  pub simplex : r.job ≡ simplex_mark → (1 ≤ r.simplex.phase) × (r.simplex.phase ≤ 11)
   pub descent : Descends r → (1 ≤ r.descent.phase) × (r.descent.phase ≤ 12)
   pub ending : Descends r → r.descent.phase ≡ 12 → EndingMark r.descent.number r.descent.detail
-  pub dense : r.job ≡ bfgsMark → r.model.limited ≡ false
-  pub limited : r.job ≡ lbfgsMark → r.model.limited ≡ true
-  pub memory : r.job ≡ lbfgsMark → r.model.memory ≡ r.gradient.memory
-  pub searching : r.job ≡ searchMark → r.descent.phase ≡ 4
+  pub dense : r.job ≡ bfgs_mark → r.model.limited ≡ false
+  pub limited : r.job ≡ lbfgs_mark → r.model.limited ≡ true
+  pub memory : r.job ≡ lbfgs_mark → r.model.memory ≡ r.gradient.memory
+  pub searching : r.job ≡ search_mark → r.descent.phase ≡ 4
   pub search : Searches r → (1 ≤ r.descent.search.phase) × (r.descent.search.phase ≤ 5)
 
 -- "any count above 4·10^10": of answers, and of rounds and runs
@@ -81,8 +81,8 @@ pub record CountsWithin (r : Record) : Type 0 where
   pub accepted : r.accepted ≤ 40000000000
   pub fevals : r.counts.fevals ≤ 40000000000
   pub gevals : r.counts.gevals ≤ 40000000000
-  pub rounds : r.job ≡ simplexMark → r.simplex.rounds ≤ 40000000000
-  pub runs : r.job ≡ simplexMark → r.simplex.runs ≤ 40000000000
+  pub rounds : r.job ≡ simplex_mark → r.simplex.rounds ≤ 40000000000
+  pub runs : r.job ≡ simplex_mark → r.simplex.runs ≤ 40000000000
   pub descents : Descends r → r.descent.rounds ≤ 40000000000
 
 -- ---- the whole
@@ -99,4 +99,4 @@ pub record InRange (r : Record) : Type 0 where
 
 -- "Refusal 1 refuses exactly 01's list and nothing more": of every record, forged ones too
 abbrev pub RefusesExactly : Type 0
-RefusesExactly = (r : Record) → (validOf r ≡ true) ↔ InRange r
+RefusesExactly = (r : Record) → (valid_of r ≡ true) ↔ InRange r

@@ -1,6 +1,6 @@
 // What a part of a record holds that is not in use, and the record of a refused start.
 ghost use Rattle.std.specs.Prelude.{◌≡◌};
-ghost use Rattle.optim_record.specs.Record.{idleOf, noOptions, noGradientOptions, wolfeOptionsOf, blankOf};
+ghost use Rattle.optim_record.specs.Record.{idle_of, no_options, no_gradient_options, wolfe_options_of, blank_of};
 
 use crate::{Counts, Limits, Record};
 use neldermead::Simplex;
@@ -9,7 +9,7 @@ use protocol::{GradientOptions, SimplexOptions, WolfeOptions};
 
 // The simplex part of a record that does not use it.
 pub fn idle() -> Simplex
-    ensures { result ≡ idleOf }
+    ensures { result ≡ idle_of }
 {
     let x = [0.0; 16];
     let none = Vertex { x, f: 0.0 };
@@ -28,7 +28,7 @@ pub fn idle() -> Simplex
 }
 
 pub fn no_options() -> SimplexOptions
-    ensures { result ≡ noOptions }
+    ensures { result ≡ no_options }
 {
     SimplexOptions {
         xtol: 0.0,
@@ -41,7 +41,7 @@ pub fn no_options() -> SimplexOptions
 
 // The options that a search's record keeps.
 pub fn wolfe_options(wolfe: WolfeOptions, gradients: bool) -> GradientOptions
-    ensures { result ≡ wolfeOptionsOf wolfe gradients }
+    ensures { result ≡ wolfe_options_of wolfe gradients }
 {
     GradientOptions {
         gradtol: 0.0,
@@ -54,7 +54,7 @@ pub fn wolfe_options(wolfe: WolfeOptions, gradients: bool) -> GradientOptions
 }
 
 pub fn no_gradient_options() -> GradientOptions
-    ensures { result ≡ noGradientOptions }
+    ensures { result ≡ no_gradient_options }
 {
     let wolfe = WolfeOptions {
         c1: 0.0,
@@ -67,7 +67,7 @@ pub fn no_gradient_options() -> GradientOptions
 
 // The record of a refused start: zeros, with a mark that no job has, and the first phase of a search.
 pub fn blank() -> Record
-    ensures { result ≡ blankOf }
+    ensures { result ≡ blank_of }
 {
     let diff = objective::begun([0.0; 16]);
     let simplex = idle();

@@ -4,7 +4,7 @@
 mod blanks;
 
 ghost use Rattle.std.specs.Prelude.{◌≡◌};
-ghost use Rattle.optim_record.specs.Record.{gradientJobOf, validSimplexOf, validSearchPartOf, validSearchOf, knownRefusalOf, validEndingOf, validOptionsOf, validModelOf, validDescentOf, validOf};
+ghost use Rattle.optim_record.specs.Record.{gradient_job_of, valid_simplex_of, valid_search_part_of, valid_search_of, known_refusal_of, valid_ending_of, valid_options_of, valid_model_of, valid_descent_of, valid_of};
 
 pub use blanks::{blank, idle, no_gradient_options, no_options, wolfe_options};
 use linesearch_moves::FAILED;
@@ -69,7 +69,7 @@ pub struct Answered {
 
 // Whether a job is bfgs or lbfgs.
 pub fn gradient_job(job: u64) -> bool
-    ensures { result ≡ gradientJobOf job }
+    ensures { result ≡ gradient_job_of job }
 {
     if job == BFGS {
         return true;
@@ -79,7 +79,7 @@ pub fn gradient_job(job: u64) -> bool
 
 // Whether a record of the job simplex is in range.
 fn valid_simplex(r: Record) -> bool
-    ensures { result ≡ validSimplexOf r }
+    ensures { result ≡ valid_simplex_of r }
 {
     let s = r.simplex;
     let limits = r.limits;
@@ -113,7 +113,7 @@ fn valid_simplex(r: Record) -> bool
 
 // Whether the search that a record holds is in range: its mark, max_evals, trials and position.
 fn valid_search_part(r: Record) -> bool
-    ensures { result ≡ validSearchPartOf r }
+    ensures { result ≡ valid_search_part_of r }
 {
     let d = r.descent;
     let s = d.search;
@@ -136,7 +136,7 @@ fn valid_search_part(r: Record) -> bool
 
 // Whether a record of the job search is in range.
 fn valid_search(r: Record) -> bool
-    ensures { result ≡ validSearchOf r }
+    ensures { result ≡ valid_search_of r }
 {
     let d = r.descent;
     if r.n == 0 {
@@ -150,7 +150,7 @@ fn valid_search(r: Record) -> bool
 
 // Whether a number and a detail are those of a refusal that may end a gradient fit.
 fn known_refusal(number: u64, detail: u64) -> bool
-    ensures { result ≡ knownRefusalOf number detail }
+    ensures { result ≡ known_refusal_of number detail }
 {
     if number == 5 {
         if detail == 1 {
@@ -187,7 +187,7 @@ fn known_refusal(number: u64, detail: u64) -> bool
 
 // Whether a descent that a refusal ended knows it.
 fn valid_ending(d: Descent) -> bool
-    ensures { result ≡ validEndingOf d }
+    ensures { result ≡ valid_ending_of d }
 {
     if d.phase == BY_REFUSAL {
         return known_refusal(d.number, d.detail);
@@ -197,7 +197,7 @@ fn valid_ending(d: Descent) -> bool
 
 // Whether the allowances of a gradient fit are within the limits.
 fn valid_options(r: Record) -> bool
-    ensures { result ≡ validOptionsOf r }
+    ensures { result ≡ valid_options_of r }
 {
     let limits = r.limits;
     if MOST_ALLOWED < limits.iter {
@@ -212,7 +212,7 @@ fn valid_options(r: Record) -> bool
 // Whether the model of a gradient fit is its job's, and that of lbfgs holds no more pairs than its memory,
 // which is no more than sixteen. No other job has a memory.
 fn valid_model(r: Record) -> bool
-    ensures { result ≡ validModelOf r }
+    ensures { result ≡ valid_model_of r }
 {
     let o = r.gradient;
     let m = r.model;
@@ -234,7 +234,7 @@ fn valid_model(r: Record) -> bool
 
 // Whether a record of the jobs bfgs and lbfgs is in range.
 fn valid_descent(r: Record) -> bool
-    ensures { result ≡ validDescentOf r }
+    ensures { result ≡ valid_descent_of r }
 {
     let d = r.descent;
     let diff = d.diff;
@@ -267,7 +267,7 @@ fn valid_descent(r: Record) -> bool
 
 // Refusal 1: whether the record is in range.
 pub fn valid(r: Record) -> bool
-    ensures { result ≡ validOf r }
+    ensures { result ≡ valid_of r }
 {
     let counts = r.counts;
     let diff = r.diff;

@@ -2,9 +2,9 @@
 #![tactic(auto)]
 
 ghost use Rattle.std.specs.Prelude.{◌≡◌, ◌≤◌};
-ghost use Rattle.optim_record.specs.Record.{outcomeOf, fixedOf, searchFixedOf, gradientFixedOf, Stands};
-ghost use Rattle.optim_reply.specs.Standing.{overOf, gradientDueOf, terminationOf, descentTerminationOf, descentConvergedOf};
-ghost use Rattle.optim_reply.specs.Spoken.{replyWith, refusalOf, askedOf, endedOf, simplexSpokenOf, foundOf, searchSpokenOf, descentEndedOf, descentSpokenOf, differencesSpokenOf, spokenOf, spokenIn};
+ghost use Rattle.optim_record.specs.Record.{outcome_of, fixed_of, search_fixed_of, gradient_fixed_of, Stands};
+ghost use Rattle.optim_reply.specs.Standing.{over_of, gradient_due_of, termination_of, descent_termination_of, descent_converged_of};
+ghost use Rattle.optim_reply.specs.Spoken.{reply_with, refusal_of, asked_of, ended_of, simplex_spoken_of, found_of, search_spoken_of, descent_ended_of, descent_spoken_of, differences_spoken_of, spoken_of, spoken_in};
 
 use linesearch::{Line, Search};
 use linesearch_moves::{ASKS_DIFFERENCE, ASKS_GRADIENT, FOUND};
@@ -30,7 +30,7 @@ pub struct Spoken {
 
 // A refusal.
 pub fn refused(number: u64, detail: u64) -> Spoken
-    ensures { result ≡ refusalOf number detail }
+    ensures { result ≡ refusal_of number detail }
 {
     let x = [0.0; 16];
     let g = [0.0; 16];
@@ -43,7 +43,7 @@ pub fn refused(number: u64, detail: u64) -> Spoken
 
 // What the start of a simplex fit fixed.
 pub fn fixed(r: Record) -> Fixed
-    ensures { result ≡ fixedOf r }
+    ensures { result ≡ fixed_of r }
 {
     let limits = r.limits;
     let options = r.options;
@@ -57,7 +57,7 @@ pub fn fixed(r: Record) -> Fixed
 
 // What the start of a search fixed.
 pub fn search_fixed(r: Record) -> linesearch::Fixed
-    ensures { result ≡ searchFixedOf r }
+    ensures { result ≡ search_fixed_of r }
 {
     let o = r.gradient;
     let options = o.wolfe;
@@ -70,7 +70,7 @@ pub fn search_fixed(r: Record) -> linesearch::Fixed
 
 // What the start of a gradient fit fixed.
 pub fn gradient_fixed(r: Record) -> quasinewton::Fixed
-    ensures { result ≡ gradientFixedOf r }
+    ensures { result ≡ gradient_fixed_of r }
 {
     let limits = r.limits;
     let options = r.gradient;
@@ -84,7 +84,7 @@ pub fn gradient_fixed(r: Record) -> quasinewton::Fixed
 
 // Whether the job has ended: a question is open in the phases up to SHRINKING and, of a search, ASKS_DIFFERENCE.
 pub fn over(r: Record) -> bool
-    ensures { result ≡ overOf r }
+    ensures { result ≡ over_of r }
 {
     let diff = r.diff;
     let s = r.simplex;
@@ -104,7 +104,7 @@ pub fn over(r: Record) -> bool
 
 // Whether the open question is for a gradient.
 pub fn gradient_due(r: Record) -> bool
-    ensures { result ≡ gradientDueOf r }
+    ensures { result ≡ gradient_due_of r }
 {
     if r.job == SEARCH {
         let d = r.descent;
@@ -119,7 +119,7 @@ pub fn gradient_due(r: Record) -> bool
 
 // The reason that a phase stands for: MaxFevals has the mark that is left.
 fn termination(phase: u64) -> Termination
-    ensures { result ≡ terminationOf phase }
+    ensures { result ≡ termination_of phase }
 {
     if phase == BY_TOLERANCE {
         return Termination::SimplexTolerance;
@@ -136,7 +136,7 @@ fn termination(phase: u64) -> Termination
 // The question of a kind at x, after `accepted` answers.
 pub fn asks(accepted: u64, kind: Kind, x: [f64; 16]) -> Spoken
     requires { accepted ≤ 40000000001 }
-    ensures { result ≡ askedOf accepted kind x }
+    ensures { result ≡ asked_of accepted kind x }
 {
     let g = [0.0; 16];
     Spoken {
@@ -148,7 +148,7 @@ pub fn asks(accepted: u64, kind: Kind, x: [f64; 16]) -> Spoken
 
 // The result of a simplex fit.
 fn ends(counts: Counts, phase: u64, rounds: u64, best: Vertex) -> Spoken
-    ensures { result ≡ endedOf counts phase rounds best }
+    ensures { result ≡ ended_of counts phase rounds best }
 {
     let x = best.x;
     let g = [0.0; 16];
@@ -178,7 +178,7 @@ fn standing_simplex(
     best: Vertex,
 ) -> Spoken
     requires { accepted ≤ 40000000001 }
-    ensures { result ≡ simplexSpokenOf accepted counts phase rounds x best }
+    ensures { result ≡ simplex_spoken_of accepted counts phase rounds x best }
 {
     if phase <= SHRINKING {
         return asks(accepted, Kind::Value, x);
@@ -191,7 +191,7 @@ fn standing_simplex(
 
 // The outcome of a search.
 fn found(s: Search) -> Spoken
-    ensures { result ≡ foundOf s }
+    ensures { result ≡ found_of s }
 {
     let best = s.best;
     let trial = best.trial;
@@ -214,7 +214,7 @@ fn found(s: Search) -> Spoken
 pub fn standing_search(accepted: u64, fixed: linesearch::Fixed, line: Line, s: Search) -> Spoken
     requires accepted_bound { accepted ≤ 40000000001 }
     requires n_bound { fixed.n ≤ 16 }
-    ensures { result ≡ searchSpokenOf accepted fixed line s }
+    ensures { result ≡ search_spoken_of accepted fixed line s }
 {
     if ASKS_DIFFERENCE < s.phase {
         return found(s);
@@ -228,7 +228,7 @@ pub fn standing_search(accepted: u64, fixed: linesearch::Fixed, line: Line, s: S
 
 // The reason that a gradient fit's phase stands for: GradientFailed has the mark that is left.
 fn descent_termination(phase: u64) -> Termination
-    ensures { result ≡ descentTerminationOf phase }
+    ensures { result ≡ descent_termination_of phase }
 {
     if phase == BY_GRADIENT {
         return Termination::GradientTolerance;
@@ -252,7 +252,7 @@ fn descent_termination(phase: u64) -> Termination
 }
 
 fn descent_converged(phase: u64) -> bool
-    ensures { result ≡ descentConvergedOf phase }
+    ensures { result ≡ descent_converged_of phase }
 {
     if phase < BY_GRADIENT {
         return false;
@@ -262,7 +262,7 @@ fn descent_converged(phase: u64) -> bool
 
 // The result of a gradient fit.
 fn descent_ends(counts: Counts, phase: u64, rounds: u64, line: Line) -> Spoken
-    ensures { result ≡ descentEndedOf counts phase rounds line }
+    ensures { result ≡ descent_ended_of counts phase rounds line }
 {
     let x = line.x;
     let g = [0.0; 16];
@@ -287,7 +287,7 @@ fn descent_ends(counts: Counts, phase: u64, rounds: u64, line: Line) -> Spoken
 fn standing_descent(accepted: u64, counts: Counts, fixed: quasinewton::Fixed, d: Descent) -> Spoken
     requires accepted_bound { accepted ≤ 40000000001 }
     requires n_bound { fixed.n ≤ 16 }
-    ensures { result ≡ descentSpokenOf accepted counts fixed d }
+    ensures { result ≡ descent_spoken_of accepted counts fixed d }
 {
     let line = d.line;
     let asking = quasinewton::asks(d);
@@ -310,7 +310,7 @@ pub fn standing_differences(accepted: u64, n: usize, diff: Differences) -> Spoke
     requires accepted_bound { accepted ≤ 40000000001 }
     requires n_bound { n ≤ 16 }
     requires at_le_n { diff.at ≤ n }
-    ensures { result ≡ differencesSpokenOf accepted n diff }
+    ensures { result ≡ differences_spoken_of accepted n diff }
 {
     if diff.at == n {
         let x = diff.x;
@@ -328,7 +328,7 @@ pub fn standing_differences(accepted: u64, n: usize, diff: Differences) -> Spoke
 // The question or the outcome that stands.
 pub fn standing(r: Record) -> Spoken
     requires { Stands r }
-    ensures { result ≡ spokenOf r }
+    ensures { result ≡ spoken_of r }
 {
     let counts = r.counts;
     let s = r.simplex;
@@ -352,7 +352,7 @@ pub fn standing(r: Record) -> Spoken
 
 // What is said, beside its record.
 pub fn answered(s: Spoken, r: Record) -> Answered
-    ensures { (outcomeOf result ≡ replyWith s r) × (spokenIn result ≡ s) }
+    ensures { (outcome_of result ≡ reply_with s r) × (spoken_in result ≡ s) }
 {
     let said = s.said;
     let x = s.x;

@@ -3,9 +3,9 @@
 
 ghost use Rattle.std.specs.Prelude.{◌≡◌, ◌≤◌, ◌<◌, length};
 ghost use Rattle.optim_record.specs.Record.{Ranges};
-ghost use Rattle.protocol.specs.Protocol.{simplexMark};
-ghost use Rattle.optim_rules.specs.Rules.{repeatsOf, suitsOf, meetsOf, acceptsOf};
-ghost use Rattle.optim_rules.specs.Moves.{Worded, countedOf, simplexToldOf, searchToldOf, descentToldOf};
+ghost use Rattle.protocol.specs.Protocol.{simplex_mark};
+ghost use Rattle.optim_rules.specs.Rules.{repeats_of, suits_of, meets_of, accepts_of};
+ghost use Rattle.optim_rules.specs.Moves.{Worded, counted_of, simplex_told_of, search_told_of, descent_told_of};
 
 use neldermead::Simplex;
 use optim_record::{Counts, Record};
@@ -14,7 +14,7 @@ use quasinewton::Descent;
 
 // Whether a number is that of the last accepted answer; before the first none is.
 fn repeats(accepted: u64, number: u64) -> bool
-    ensures { result ≡ repeatsOf accepted number }
+    ensures { result ≡ repeats_of accepted number }
 {
     if accepted == 0 {
         return false;
@@ -24,7 +24,7 @@ fn repeats(accepted: u64, number: u64) -> bool
 
 // Whether an answer's kind and count of words are those of the open question.
 fn suits(r: Record, kind: u8, count: usize) -> bool
-    ensures { result ≡ suitsOf r kind count }
+    ensures { result ≡ suits_of r kind count }
 {
     if optim_reply::gradient_due(r) {
         if kind != GRADIENT {
@@ -40,7 +40,7 @@ fn suits(r: Record, kind: u8, count: usize) -> bool
 
 // The number of the refusal that an answer meets, 0 for none: 1, then the repeat rule, then 15 to 17.
 pub fn meets(r: Record, number: u64, kind: u8, count: usize) -> u64
-    ensures { result ≡ meetsOf r number kind count }
+    ensures { result ≡ meets_of r number kind count }
 {
     if !optim_record::valid(r) {
         return 1;
@@ -62,7 +62,7 @@ pub fn meets(r: Record, number: u64, kind: u8, count: usize) -> u64
 
 // Whether an answer that meets the refusal `why` is accepted: it meets none, and is no repeat.
 pub fn accepts(r: Record, number: u64, why: u64) -> bool
-    ensures { result ≡ acceptsOf r number why }
+    ensures { result ≡ accepts_of r number why }
 {
     if why != 0 {
         return false;
@@ -73,7 +73,7 @@ pub fn accepts(r: Record, number: u64, why: u64) -> bool
 // The counts with one answer more.
 pub fn counted(r: Record) -> Counts
     requires { Ranges r }
-    ensures { result ≡ countedOf r }
+    ensures { result ≡ counted_of r }
 {
     let counts = r.counts;
     let fevals = counts.fevals;
@@ -93,9 +93,9 @@ pub fn counted(r: Record) -> Counts
 // The simplex after an answer: its value is read.
 pub fn simplex_told(r: Record, words: &[f64]) -> Simplex
     requires ranges { Ranges r }
-    requires job_value { r.job ≡ simplexMark }
+    requires job_value { r.job ≡ simplex_mark }
     requires words_nonzero { 0 < length words.now }
-    ensures { result ≡ simplexToldOf r words.now }
+    ensures { result ≡ simplex_told_of r words.now }
 {
     let s = r.simplex;
     let counts = r.counts;
@@ -108,7 +108,7 @@ pub fn simplex_told(r: Record, words: &[f64]) -> Simplex
 pub fn search_told(r: Record, words: &[f64]) -> Descent
     requires n_bound { r.n ≤ 16 }
     requires worded { Worded r words.now }
-    ensures { result ≡ searchToldOf r words.now }
+    ensures { result ≡ search_told_of r words.now }
 {
     let mut d = r.descent;
     let line = d.line;
@@ -130,7 +130,7 @@ pub fn search_told(r: Record, words: &[f64]) -> Descent
 pub fn descent_told(r: Record, words: &[f64]) -> Descent
     requires n_bound { r.n ≤ 16 }
     requires worded { Worded r words.now }
-    ensures { result ≡ descentToldOf r words.now }
+    ensures { result ≡ descent_told_of r words.now }
 {
     let d = r.descent;
     let fixed = optim_reply::gradient_fixed(r);

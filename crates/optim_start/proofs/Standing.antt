@@ -11,53 +11,53 @@ use Rattle.protocol.specs.declared.SimplexOptions.{SimplexOptions}
 use Rattle.protocol.specs.declared.WolfeOptions.{WolfeOptions}
 use Rattle.protocol.specs.declared.GradientOptions.{GradientOptions}
 use Rattle.protocol.specs.declared.Allowances.{Allowances}
-use Rattle.objective.specs.Step.{begunOf}
+use Rattle.objective.specs.Step.{begun_of}
 use Rattle.linesearch_trials.specs.declared.Line.{Line}
-use Rattle.neldermead.specs.Step.{startOf}
+use Rattle.neldermead.specs.Step.{start_of}
 use Rattle.quasinewton.specs.Step as quasinewton
-use Rattle.optim_record.specs.Record.{searchFixedOf, gradientJobOf, Stands}
-use Rattle.optim_reply.specs.Spoken.{askedOf, simplexSpokenOf, searchSpokenOf, descentSpokenOf, differencesSpokenOf, spokenOf}
-use Rattle.optim_first_record.specs.Starts.{begunRecordOf, simplexRecordOf, searchRecordOf, gradientMarkOf, gradientRecordOf}
+use Rattle.optim_record.specs.Record.{search_fixed_of, gradient_job_of, Stands}
+use Rattle.optim_reply.specs.Spoken.{asked_of, simplex_spoken_of, search_spoken_of, descent_spoken_of, differences_spoken_of, spoken_of}
+use Rattle.optim_first_record.specs.Starts.{begun_record_of, simplex_record_of, search_record_of, gradient_mark_of, gradient_record_of}
 
-pub simplex-speaks : (x : List Float) (n : ℕ) (o : SimplexOptions) (a : Allowances) → askedOf (simplexRecordOf x n o a).accepted Value x ≡ spokenOf (simplexRecordOf x n o a)
-unfolding spokenOf simplexSpokenOf simplexRecordOf startOf
-simplex-speaks x n o a = refl
+pub simplex_speaks : (x : List Float) (n : ℕ) (o : SimplexOptions) (a : Allowances) → asked_of (simplex_record_of x n o a).accepted Value x ≡ spoken_of (simplex_record_of x n o a)
+unfolding spoken_of simplex_spoken_of simplex_record_of start_of
+simplex_speaks x n o a = refl
 
-pub gradient-speaks : (x : List Float) (n : ℕ) (o : GradientOptions) (a : Allowances) (limited : Bool)
-    → askedOf (gradientRecordOf x n o a limited).accepted Value x ≡ spokenOf (gradientRecordOf x n o a limited)
-unfolding spokenOf descentSpokenOf gradientRecordOf gradientMarkOf gradientJobOf quasinewton.startOf quasinewton.asksOf quasinewton.gradientDueOf quasinewton.probeOf
-gradient-speaks x n o a true = refl
-gradient-speaks x n o a false = refl
+pub gradient_speaks : (x : List Float) (n : ℕ) (o : GradientOptions) (a : Allowances) (limited : Bool)
+    → asked_of (gradient_record_of x n o a limited).accepted Value x ≡ spoken_of (gradient_record_of x n o a limited)
+unfolding spoken_of descent_spoken_of gradient_record_of gradient_mark_of gradient_job_of quasinewton.start_of quasinewton.asks_of quasinewton.gradient_due_of quasinewton.probe_of
+gradient_speaks x n o a true = refl
+gradient_speaks x n o a false = refl
 
-pub search-speaks : (l : Line) (n : ℕ) (step : Float) (o : WolfeOptions) (gradients : Bool) → let r = searchRecordOf l n step o gradients in
-    searchSpokenOf r.accepted (searchFixedOf r) r.descent.line r.descent.search ≡ spokenOf r
-unfolding spokenOf searchRecordOf
-search-speaks l n step o gradients = refl
+pub search_speaks : (l : Line) (n : ℕ) (step : Float) (o : WolfeOptions) (gradients : Bool) → let r = search_record_of l n step o gradients in
+    search_spoken_of r.accepted (search_fixed_of r) r.descent.line r.descent.search ≡ spoken_of r
+unfolding spoken_of search_record_of
+search_speaks l n step o gradients = refl
 
-pub differences-speak : (x : List Float) → differencesSpokenOf (begunRecordOf x).accepted (begunRecordOf x).n (begunRecordOf x).diff ≡ spokenOf (begunRecordOf x)
-unfolding spokenOf begunRecordOf gradientJobOf
-differences-speak x = refl
+pub differences_speak : (x : List Float) → differences_spoken_of (begun_record_of x).accepted (begun_record_of x).n (begun_record_of x).diff ≡ spoken_of (begun_record_of x)
+unfolding spoken_of begun_record_of gradient_job_of
+differences_speak x = refl
 
-pub begun-stands : (x : List Float) → length x ≤ 16 → Stands (begunRecordOf x)
-unfolding begunRecordOf begunOf
-begun-stands x h = record { few = h; numbers = zero-le; coordinate = λ o. zero-le }
+pub begun_stands : (x : List Float) → length x ≤ 16 → Stands (begun_record_of x)
+unfolding begun_record_of begun_of
+begun_stands x h = record { few = h; numbers = zero-le; coordinate = λ o. zero-le }
 
-pub begun-within : (x : List Float) → (begunRecordOf x).diff.at ≤ (begunRecordOf x).n
-unfolding begunRecordOf begunOf
-begun-within x = zero-le
+pub begun_within : (x : List Float) → (begun_record_of x).diff.at ≤ (begun_record_of x).n
+unfolding begun_record_of begun_of
+begun_within x = zero-le
 
-pub simplex-stands : (point : List Float) (n : ℕ) (o : SimplexOptions) (a : Allowances) → n ≤ 16 → Stands (simplexRecordOf point n o a)
-unfolding simplexRecordOf
-simplex-stands point n o a h = record { few = h; numbers = zero-le; coordinate = λ o. absurd (o.simplex refl) }
+pub simplex_stands : (point : List Float) (n : ℕ) (o : SimplexOptions) (a : Allowances) → n ≤ 16 → Stands (simplex_record_of point n o a)
+unfolding simplex_record_of
+simplex_stands point n o a h = record { few = h; numbers = zero-le; coordinate = λ o. absurd (o.simplex refl) }
 
-pub search-stands : (l : Line) (n : ℕ) (step : Float) (o : WolfeOptions) (gradients : Bool) → n ≤ 16 → Stands (searchRecordOf l n step o gradients)
-unfolding searchRecordOf
-search-stands l n step o gradients h = record { few = h; numbers = zero-le; coordinate = λ o. absurd (o.search refl) }
+pub search_stands : (l : Line) (n : ℕ) (step : Float) (o : WolfeOptions) (gradients : Bool) → n ≤ 16 → Stands (search_record_of l n step o gradients)
+unfolding search_record_of
+search_stands l n step o gradients h = record { few = h; numbers = zero-le; coordinate = λ o. absurd (o.search refl) }
 
-pub gradient-stands : (point : List Float) (n : ℕ) (o : GradientOptions) (a : Allowances) (limited : Bool) → n ≤ 16 → Stands (gradientRecordOf point n o a limited)
-unfolding gradientRecordOf gradientMarkOf gradientJobOf
-gradient-stands point n o a limited h = record { few = h; numbers = zero-le; coordinate = λ p. absurd (marked limited p.gradient) }
+pub gradient_stands : (point : List Float) (n : ℕ) (o : GradientOptions) (a : Allowances) (limited : Bool) → n ≤ 16 → Stands (gradient_record_of point n o a limited)
+unfolding gradient_record_of gradient_mark_of gradient_job_of
+gradient_stands point n o a limited h = record { few = h; numbers = zero-le; coordinate = λ p. absurd (marked limited p.gradient) }
   where
-    marked : (b : Bool) → gradientJobOf (gradientMarkOf b) ≡ false → ⊥
+    marked : (b : Bool) → gradient_job_of (gradient_mark_of b) ≡ false → ⊥
     marked true e = true≢false e
     marked false e = true≢false e

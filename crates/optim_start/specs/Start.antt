@@ -1,53 +1,53 @@
 -- Starts. Definitions only.
 use Rattle.std.specs.Prelude.{Bool, true, false, not, cond, List, ltb, eqb, length, Float}
-use Rattle.vector.specs.Points.{fromSliceOf, allFiniteOf}
+use Rattle.vector.specs.Points.{from_slice_of, all_finite_of}
 use Rattle.protocol.specs.declared.Allowances.{Allowances}
 use Rattle.protocol.specs.declared.SimplexOptions.{SimplexOptions}
 use Rattle.protocol.specs.declared.WolfeOptions.{WolfeOptions}
 use Rattle.protocol.specs.declared.GradientOptions.{GradientOptions}
 use Rattle.protocol.specs.Protocol.{Reply}
-use Rattle.linesearch_trials.specs.Start.{lineFromOf, lineRefusalOf}
+use Rattle.linesearch_trials.specs.Start.{line_from_of, line_refusal_of}
 use Rattle.optim_record.specs.declared.Record.{Record}
-use Rattle.optim_record.specs.Record.{blankOf}
-use Rattle.optim_reply.specs.Standing.{refusedOf, standingOf}
-use Rattle.optim_first_record.specs.Starts.{begunRecordOf, simplexRefusalOf, simplexRecordOf, searchRefusalOf, searchRecordOf, gradientRefusalOf, gradientRecordOf}
+use Rattle.optim_record.specs.Record.{blank_of}
+use Rattle.optim_reply.specs.Standing.{refused_of, standing_of}
+use Rattle.optim_first_record.specs.Starts.{begun_record_of, simplex_refusal_of, simplex_record_of, search_refusal_of, search_record_of, gradient_refusal_of, gradient_record_of}
 
 -- differences meet 2 alone: "A lent list .. is above 16"
-unfoldable pub differencesOf : List Float → Reply × Record
-differencesOf x = cond (ltb 16 (length x)) (refusedOf blankOf 2 0) (standingOf (begunRecordOf x))
+unfoldable pub differences_of : List Float → Reply × Record
+differences_of x = cond (ltb 16 (length x)) (refused_of blank_of 2 0) (standing_of (begun_record_of x))
 
 -- a simplex fit meets 2, 4, 8, 9, 12, in that order
-unfoldable pub simplexOf : List Float → SimplexOptions → Allowances → Reply × Record
-simplexOf x o a =
+unfoldable pub simplex_of : List Float → SimplexOptions → Allowances → Reply × Record
+simplex_of x o a =
     let n = length x in
-    let why = simplexRefusalOf n o a in
-    let point = fromSliceOf x n in
-    cond (not (eqb why.number 0)) (refusedOf blankOf why.number why.detail)
-    (cond (not (allFiniteOf point n)) (refusedOf blankOf 12 1) (standingOf (simplexRecordOf point n o a)))
+    let why = simplex_refusal_of n o a in
+    let point = from_slice_of x n in
+    cond (not (eqb why.number 0)) (refused_of blank_of why.number why.detail)
+    (cond (not (all_finite_of point n)) (refused_of blank_of 12 1) (standing_of (simplex_record_of point n o a)))
 
 -- a search meets 2, 5, 6, 7, 9, 10, 11, 12, 13, 14, in that order
-unfoldable pub searchOf : List Float → List Float → Float → List Float → Float → WolfeOptions → Bool → Reply × Record
-searchOf x d f0 g step o gradients =
+unfoldable pub search_of : List Float → List Float → Float → List Float → Float → WolfeOptions → Bool → Reply × Record
+search_of x d f0 g step o gradients =
     let n = length x in
-    let why = searchRefusalOf n (length d) (length g) o in
-    let l = lineFromOf (fromSliceOf x n) (fromSliceOf d n) f0 (fromSliceOf g n) n in
-    let lent = lineRefusalOf n l step in
-    cond (not (eqb why.number 0)) (refusedOf blankOf why.number why.detail)
-    (cond (not (eqb lent.number 0)) (refusedOf blankOf lent.number lent.detail) (standingOf (searchRecordOf l n step o gradients)))
+    let why = search_refusal_of n (length d) (length g) o in
+    let l = line_from_of (from_slice_of x n) (from_slice_of d n) f0 (from_slice_of g n) n in
+    let lent = line_refusal_of n l step in
+    cond (not (eqb why.number 0)) (refused_of blank_of why.number why.detail)
+    (cond (not (eqb lent.number 0)) (refused_of blank_of lent.number lent.detail) (standing_of (search_record_of l n step o gradients)))
 
 -- a gradient fit meets 2, 3, 4, 5, 9, 12, in that order
-unfoldable pub gradientOf : List Float → GradientOptions → Allowances → Bool → Reply × Record
-gradientOf x o a limited =
+unfoldable pub gradient_of : List Float → GradientOptions → Allowances → Bool → Reply × Record
+gradient_of x o a limited =
     let n = length x in
-    let why = gradientRefusalOf n o a limited in
-    let point = fromSliceOf x n in
-    cond (not (eqb why.number 0)) (refusedOf blankOf why.number why.detail)
-    (cond (not (allFiniteOf point n)) (refusedOf blankOf 12 1) (standingOf (gradientRecordOf point n o a limited)))
+    let why = gradient_refusal_of n o a limited in
+    let point = from_slice_of x n in
+    cond (not (eqb why.number 0)) (refused_of blank_of why.number why.detail)
+    (cond (not (all_finite_of point n)) (refused_of blank_of 12 1) (standing_of (gradient_record_of point n o a limited)))
 
-unfoldable pub bfgsOf : List Float → GradientOptions → Allowances → Reply × Record
-unfolding gradientOf
-bfgsOf x o a = gradientOf x o a false
+unfoldable pub bfgs_of : List Float → GradientOptions → Allowances → Reply × Record
+unfolding gradient_of
+bfgs_of x o a = gradient_of x o a false
 
-unfoldable pub lbfgsOf : List Float → GradientOptions → Allowances → Reply × Record
-unfolding gradientOf
-lbfgsOf x o a = gradientOf x o a true
+unfoldable pub lbfgs_of : List Float → GradientOptions → Allowances → Reply × Record
+unfolding gradient_of
+lbfgs_of x o a = gradient_of x o a true

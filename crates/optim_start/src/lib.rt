@@ -2,10 +2,10 @@
 #![tactic(auto)]
 
 ghost use Rattle.std.specs.Prelude.{◌≡◌, ◌≤◌};
-ghost use Rattle.optim_record.specs.Record.{outcomeOf, blankOf, searchFixedOf, Stands};
-ghost use Rattle.optim_reply.specs.Standing.{refusedOf};
-ghost use Rattle.optim_reply.specs.Spoken.{refusalOf, searchSpokenOf, differencesSpokenOf, spokenBy, spokenIn};
-ghost use Rattle.optim_start.specs.Start.{differencesOf, simplexOf, searchOf, gradientOf, bfgsOf, lbfgsOf};
+ghost use Rattle.optim_record.specs.Record.{outcome_of, blank_of, search_fixed_of, Stands};
+ghost use Rattle.optim_reply.specs.Standing.{refused_of};
+ghost use Rattle.optim_reply.specs.Spoken.{refusal_of, search_spoken_of, differences_spoken_of, spoken_by, spoken_in};
+ghost use Rattle.optim_start.specs.Start.{differences_of, simplex_of, search_of, gradient_of, bfgs_of, lbfgs_of};
 
 use optim_record::{Answered, Record};
 use optim_reply::Spoken;
@@ -13,7 +13,7 @@ use protocol::{Allowances, GradientOptions, Kind, SimplexOptions, WolfeOptions};
 
 // A start that is refused.
 fn refused(number: u64, detail: u64) -> Answered
-    ensures { (outcomeOf result ≡ refusedOf blankOf number detail) × (spokenIn result ≡ refusalOf number detail) }
+    ensures { (outcome_of result ≡ refused_of blank_of number detail) × (spoken_in result ≡ refusal_of number detail) }
 {
     let none = optim_record::blank();
     let s = optim_reply::refused(number, detail);
@@ -23,7 +23,7 @@ fn refused(number: u64, detail: u64) -> Answered
 // What stands in a search that starts.
 fn search_opened(r: Record) -> Spoken
     requires { Stands r }
-    ensures { result ≡ searchSpokenOf r.accepted (searchFixedOf r) r.descent.line r.descent.search }
+    ensures { result ≡ search_spoken_of r.accepted (search_fixed_of r) r.descent.line r.descent.search }
 {
     let d = r.descent;
     let line = d.line;
@@ -36,7 +36,7 @@ fn search_opened(r: Record) -> Spoken
 fn differences_opened(r: Record) -> Spoken
     requires stands { Stands r }
     requires at_le_n { r.diff.at ≤ r.n }
-    ensures { result ≡ differencesSpokenOf r.accepted r.n r.diff }
+    ensures { result ≡ differences_spoken_of r.accepted r.n r.diff }
 {
     let diff = r.diff;
     optim_reply::standing_differences(r.accepted, r.n, diff)
@@ -45,8 +45,8 @@ fn differences_opened(r: Record) -> Spoken
 // Starts central differences at x. A list of more than sixteen is refused with 2; of none it ends at
 // once with an empty gradient.
 pub fn differences(x: &[f64]) -> Answered
-    ensures outcome { outcomeOf result ≡ differencesOf x.now }
-    ensures spoken { spokenIn result ≡ spokenBy (differencesOf x.now) }
+    ensures outcome { outcome_of result ≡ differences_of x.now }
+    ensures spoken { spoken_in result ≡ spoken_by (differences_of x.now) }
 {
     if 16 < x.len() {
         return refused(2, 0);
@@ -58,8 +58,8 @@ pub fn differences(x: &[f64]) -> Answered
 
 // Starts a simplex fit at x. It is refused with 2, 4, 8, 9 or 12, looked for in that order.
 pub fn simplex(x: &[f64], o: SimplexOptions, a: Allowances) -> Answered
-    ensures outcome { outcomeOf result ≡ simplexOf x.now o a }
-    ensures spoken { spokenIn result ≡ spokenBy (simplexOf x.now o a) }
+    ensures outcome { outcome_of result ≡ simplex_of x.now o a }
+    ensures spoken { spoken_in result ≡ spoken_by (simplex_of x.now o a) }
 {
     let n = x.len();
     let why = optim_first_record::simplex_refusal(n, o, a);
@@ -86,8 +86,8 @@ pub fn search(
     o: WolfeOptions,
     gradients: bool,
 ) -> Answered
-    ensures outcome { outcomeOf result ≡ searchOf x.now d.now f0 g.now step o gradients }
-    ensures spoken { spokenIn result ≡ spokenBy (searchOf x.now d.now f0 g.now step o gradients) }
+    ensures outcome { outcome_of result ≡ search_of x.now d.now f0 g.now step o gradients }
+    ensures spoken { spoken_in result ≡ spoken_by (search_of x.now d.now f0 g.now step o gradients) }
 {
     let n = x.len();
     let why = optim_first_record::search_refusal(n, d.len(), g.len(), o);
@@ -109,8 +109,8 @@ pub fn search(
 
 // Starts a gradient fit at x, lbfgs where `limited`.
 fn gradient(x: &[f64], o: GradientOptions, a: Allowances, limited: bool) -> Answered
-    ensures outcome { outcomeOf result ≡ gradientOf x.now o a limited }
-    ensures spoken { spokenIn result ≡ spokenBy (gradientOf x.now o a limited) }
+    ensures outcome { outcome_of result ≡ gradient_of x.now o a limited }
+    ensures spoken { spoken_in result ≡ spoken_by (gradient_of x.now o a limited) }
 {
     let n = x.len();
     let why = optim_first_record::gradient_refusal(n, o, a, limited);
@@ -129,16 +129,16 @@ fn gradient(x: &[f64], o: GradientOptions, a: Allowances, limited: bool) -> Answ
 // Starts a fit by bfgs at x; its memory is passed over. It is refused with 2, 4, 5, 9 or 12, looked for in
 // that order.
 pub fn bfgs(x: &[f64], o: GradientOptions, a: Allowances) -> Answered
-    ensures outcome { outcomeOf result ≡ bfgsOf x.now o a }
-    ensures spoken { spokenIn result ≡ spokenBy (bfgsOf x.now o a) }
+    ensures outcome { outcome_of result ≡ bfgs_of x.now o a }
+    ensures spoken { spoken_in result ≡ spoken_by (bfgs_of x.now o a) }
 {
     gradient(x, o, a, false)
 }
 
 // Starts a fit by lbfgs at x. It is refused with 2, 3, 4, 5, 9 or 12, looked for in that order.
 pub fn lbfgs(x: &[f64], o: GradientOptions, a: Allowances) -> Answered
-    ensures outcome { outcomeOf result ≡ lbfgsOf x.now o a }
-    ensures spoken { spokenIn result ≡ spokenBy (lbfgsOf x.now o a) }
+    ensures outcome { outcome_of result ≡ lbfgs_of x.now o a }
+    ensures spoken { spoken_in result ≡ spoken_by (lbfgs_of x.now o a) }
 {
     gradient(x, o, a, true)
 }

@@ -2,7 +2,7 @@
 #![tactic(auto)]
 
 ghost use Rattle.std.specs.Prelude.{◌≡◌};
-ghost use Rattle.optim_lists.specs.Lists.{lists, flagOf, marksOf, numbersOf, pointsOf, valuesOf, stepsOf, changesOf, factorsOf, listsOf};
+ghost use Rattle.optim_lists.specs.Lists.{lists, flag_of, marks_of, numbers_of, points_of, values_of, steps_of, changes_of, factors_of, lists_of};
 
 use linesearch::Search;
 use linesearch_trials::Line;
@@ -14,7 +14,7 @@ use quasinewton_limited::Pair;
 use quasinewton_model::Model;
 
 fn flag(b: bool) -> u64
-    ensures { result ≡ flagOf b }
+    ensures { result ≡ flag_of b }
 {
     if b {
         return 1;
@@ -24,7 +24,7 @@ fn flag(b: bool) -> u64
 
 // The vertices' points.
 fn points_of(v: [Vertex; 17]) -> [[f64; 16]; 17]
-    ensures { result ≡ pointsOf v }
+    ensures { result ≡ points_of v }
 {
     let zeros = [0.0; 16];
     let mut xs = [zeros; 17];
@@ -40,7 +40,7 @@ fn points_of(v: [Vertex; 17]) -> [[f64; 16]; 17]
 
 // The value at each.
 fn values_of(v: [Vertex; 17]) -> [f64; 17]
-    ensures { result ≡ valuesOf v }
+    ensures { result ≡ values_of v }
 {
     let mut fs = [0.0; 17];
     let mut i: usize = 0;
@@ -54,7 +54,7 @@ fn values_of(v: [Vertex; 17]) -> [f64; 17]
 
 // The pairs' steps.
 fn steps_of(p: [Pair; 16]) -> [[f64; 16]; 16]
-    ensures { result ≡ stepsOf p }
+    ensures { result ≡ steps_of p }
 {
     let zeros = [0.0; 16];
     let mut ss = [zeros; 16];
@@ -70,7 +70,7 @@ fn steps_of(p: [Pair; 16]) -> [[f64; 16]; 16]
 
 // Their changes.
 fn changes_of(p: [Pair; 16]) -> [[f64; 16]; 16]
-    ensures { result ≡ changesOf p }
+    ensures { result ≡ changes_of p }
 {
     let zeros = [0.0; 16];
     let mut ys = [zeros; 16];
@@ -86,7 +86,7 @@ fn changes_of(p: [Pair; 16]) -> [[f64; 16]; 16]
 
 // Their factors.
 fn factors_of(p: [Pair; 16]) -> [f64; 16]
-    ensures { result ≡ factorsOf p }
+    ensures { result ≡ factors_of p }
 {
     let mut rs = [0.0; 16];
     let mut i: usize = 0;
@@ -100,7 +100,7 @@ fn factors_of(p: [Pair; 16]) -> [f64; 16]
 
 // The marks, in the order of their places.
 fn marks(r: Record) -> [u64; 36]
-    ensures { result ≡ marksOf r }
+    ensures { result ≡ marks_of r }
 {
     [
         r.accepted,
@@ -144,7 +144,7 @@ fn marks(r: Record) -> [u64; 36]
 
 // The single numbers, in the order of their places.
 fn numbers(r: Record) -> [f64; 28]
-    ensures { result ≡ numbersOf r }
+    ensures { result ≡ numbers_of r }
 {
     [
         r.options.xtol,
@@ -191,8 +191,8 @@ fn store_simplex(
     ensures best_after { best.new ≡ s.best.x }
     ensures centroid_after { centroid.new ≡ s.cen }
     ensures reflected_after { reflected.new ≡ s.refl.x }
-    ensures points_after { points.new ≡ pointsOf s.v }
-    ensures values_after { values.new ≡ valuesOf s.v }
+    ensures points_after { points.new ≡ points_of s.v }
+    ensures values_after { values.new ≡ values_of s.v }
 {
     let x = s.x;
     *sx = x;
@@ -262,9 +262,9 @@ fn store_model(
     q: Model,
 )
     ensures h_after { h.new ≡ q.dense.h }
-    ensures steps_after { steps.new ≡ stepsOf q.pairs.pairs }
-    ensures changes_after { changes.new ≡ changesOf q.pairs.pairs }
-    ensures factors_after { factors.new ≡ factorsOf q.pairs.pairs }
+    ensures steps_after { steps.new ≡ steps_of q.pairs.pairs }
+    ensures changes_after { changes.new ≡ changes_of q.pairs.pairs }
+    ensures factors_after { factors.new ≡ factors_of q.pairs.pairs }
 {
     let matrix = q.dense.h;
     *h = matrix;
@@ -304,7 +304,7 @@ pub fn store(
     factors: &mut [f64; 16],
     r: Record,
 )
-    ensures { lists m.new w.new dx.new dg.new sx.new best.new centroid.new reflected.new points.new values.new lx.new lg.new ld.new tx.new tg.new ex.new eg.new ix.new ig.new h.new steps.new changes.new factors.new ≡ listsOf r }
+    ensures { lists m.new w.new dx.new dg.new sx.new best.new centroid.new reflected.new points.new values.new lx.new lg.new ld.new tx.new tg.new ex.new eg.new ix.new ig.new h.new steps.new changes.new factors.new ≡ lists_of r }
 {
     let ms = marks(r);
     *m = ms;

@@ -1,4 +1,4 @@
--- After an accepted answer a record of a gradient fit has the rest of its text to do, and stays sound and within its bounds: `next-as`, `made-sound`, `made-rest`, `made-within`. Assumes nothing.
+-- After an accepted answer a record of a gradient fit has the rest of its text to do, and stays sound and within its bounds: `next_as`, `made_sound`, `made_rest`, `made_within`. Assumes nothing.
 use Prim.Native.Nat.{ℕ, ◌+◌, ◌≤◌, ◌<◌}
 use native.Mathlib.Nat.{add-zero, le_trans}
 use native.Mathlib.Omega.{arith}
@@ -9,34 +9,34 @@ use lib.Dec.{eqb}
 use lib.ListN.{length, get_or}
 use lib.Ieee.{Float, nan}
 use Rattle.vector.specs.Lists.{first}
-use Rattle.vector.specs.Points.{fromSliceOf}
+use Rattle.vector.specs.Points.{from_slice_of}
 use Rattle.protocol.specs.declared.Kind.{Kind}
 use Rattle.protocol.specs.declared.Kind.TheVariants.{Value, Gradient}
-use Rattle.protocol.specs.Protocol.{readOf}
-use Rattle.protocol.specs.Dialogue.{ofKind}
+use Rattle.protocol.specs.Protocol.{read_of}
+use Rattle.protocol.specs.Dialogue.{of_kind}
 use Rattle.protocol.specs.Claim.{Limit, limit, unlimited}
 use Rattle.protocol.specs.Ask.{query}
-use Rattle.protocol.specs.Bounds.{ofBoth}
+use Rattle.protocol.specs.Bounds.{of_both}
 use Rattle.protocol.proofs.Bounds as bounds
 use Rattle.linesearch_trials.specs.declared.Evaluation.{Evaluation}
 use Rattle.linesearch.specs.Step as linesearch
 use Rattle.quasinewton_model.specs.declared.Model.{Model}
-use Rattle.quasinewton_model.specs.Step.{limitedUpdateOf, denseUpdateOf, updateOf}
+use Rattle.quasinewton_model.specs.Step.{limited_update_of, dense_update_of, update_of}
 use Rattle.quasinewton_record.specs.declared.Descent.{Descent}
 use Rattle.quasinewton_record.specs.declared.Fixed.{Fixed}
 use Rattle.quasinewton.specs.Step as step
-use Rattle.quasinewton.specs.Step.{probeOf, asksOf, storesOf, smallDecreaseOf, smallStepOf, Moved, storedOf, succeededOf, settledOf, toldOf, toldGradientOf}
-use Rattle.vector.specs.Points.{differenceOf, allFiniteOf}
-use Rattle.quasinewton_theory.specs.Follows.{toDo, wantsGradient, kindOf, heardOf, settled, AllowsFevals, GradientAllows, DescentShaped}
-use Rattle.quasinewton_theory.proofs.Follows.{gradient-follows}
+use Rattle.quasinewton.specs.Step.{probe_of, asks_of, stores_of, small_decrease_of, small_step_of, Moved, stored_of, succeeded_of, settled_of, told_of, told_gradient_of}
+use Rattle.vector.specs.Points.{difference_of, all_finite_of}
+use Rattle.quasinewton_theory.specs.Follows.{to_do, wants_gradient, kind_of, heard_of, settled, AllowsFevals, GradientAllows, DescentShaped}
+use Rattle.quasinewton_theory.proofs.Follows.{gradient_follows}
 use Rattle.optim_record.specs.declared.Record.{Record}
-use Rattle.optim_record.specs.Record.{noLimit, gradientFixedOf}
-use Rattle.optim_reply.specs.Standing.{gradientDueOf}
-use Rattle.optim.specs.Answer.{steppedOf, gradedOf}
-use Rattle.optim_theory.proofs.Refusals.{Named, settled-named, told-named, told-gradient-named}
-use Rattle.optim_theory.proofs.Replies.{no-simplex, no-search}
-use Rattle.optim_theory.proofs.DescentRelated.{restOf, ModelMarked, Sound, Low, asks, due-as}
-use Rattle.optim_theory.proofs.DescentBounds.{Budget, bounding, bound-low, Within, settled-keeps}
+use Rattle.optim_record.specs.Record.{no_limit, gradient_fixed_of}
+use Rattle.optim_reply.specs.Standing.{gradient_due_of}
+use Rattle.optim.specs.Answer.{stepped_of, graded_of}
+use Rattle.optim_theory.proofs.Refusals.{Named, settled_named, told_named, told_gradient_named}
+use Rattle.optim_theory.proofs.Replies.{no_simplex, no_search}
+use Rattle.optim_theory.proofs.DescentRelated.{rest_of, ModelMarked, Sound, Low, asks, due_as}
+use Rattle.optim_theory.proofs.DescentBounds.{Budget, bounding, bound_low, Within, settled_keeps}
 
 -- ---- the model of a record that has gone on
 
@@ -45,34 +45,34 @@ record Alike (m z : Model) : Type 0 where
   limited : z.limited ≡ m.limited
   memory : z.memory ≡ m.memory
 
-updated-alike : (m : Model) (s y : List Float) (n : ℕ) → Alike m (updateOf m s y n)
-unfolding updateOf
-updated-alike m s y n = go m.limited
+updated_alike : (m : Model) (s y : List Float) (n : ℕ) → Alike m (update_of m s y n)
+unfolding update_of
+updated_alike m s y n = go m.limited
   where
-    go : (b : Bool) → Alike m (cond b (record { limited = m.limited; memory = m.memory; dense = m.dense; pairs = limitedUpdateOf m.pairs m.memory s y n })
-        (record { limited = m.limited; memory = m.memory; dense = denseUpdateOf m.dense s y n; pairs = m.pairs }))
+    go : (b : Bool) → Alike m (cond b (record { limited = m.limited; memory = m.memory; dense = m.dense; pairs = limited_update_of m.pairs m.memory s y n })
+        (record { limited = m.limited; memory = m.memory; dense = dense_update_of m.dense s y n; pairs = m.pairs }))
     go true = record { limited = refl; memory = refl }
     go false = record { limited = refl; memory = refl }
 
-stored-alike : (fixed : Fixed) (q : Descent) (m : Model) (t : Evaluation) → Alike m (storedOf fixed q m t)
-unfolding storedOf
-stored-alike fixed q m t = go (storesOf s y n)
+stored_alike : (fixed : Fixed) (q : Descent) (m : Model) (t : Evaluation) → Alike m (stored_of fixed q m t)
+unfolding stored_of
+stored_alike fixed q m t = go (stores_of s y n)
   where
     n : ℕ
     n = fixed.n
 
     s : List Float
-    s = differenceOf t.x q.line.x n
+    s = difference_of t.x q.line.x n
 
     y : List Float
-    y = differenceOf t.g q.line.g n
+    y = difference_of t.g q.line.g n
 
-    go : (b : Bool) → Alike m (cond b (updateOf m s y n) m)
-    go true = updated-alike m s y n
+    go : (b : Bool) → Alike m (cond b (update_of m s y n) m)
+    go true = updated_alike m s y n
     go false = record { limited = refl; memory = refl }
 
-still-marked : (job k : ℕ) (m z : Model) → ModelMarked job k m → Alike m z → ModelMarked job k z
-still-marked job k m z h a = record { dense = λ j. a.limited ∙ h.dense j; limited = λ j. a.limited ∙ h.limited j; memory = λ j. a.memory ∙ h.memory j }
+still_marked : (job k : ℕ) (m z : Model) → ModelMarked job k m → Alike m z → ModelMarked job k z
+still_marked job k m z h a = record { dense = λ j. a.limited ∙ h.dense j; limited = λ j. a.limited ∙ h.limited j; memory = λ j. a.memory ∙ h.memory j }
 
 -- it is the model as it was, or with one step stored
 record Models (P : Model → Type 0) (w : Moved) : Type 0 where
@@ -82,70 +82,70 @@ either : (P : Model → Type 0) (b : Bool) {u w : Moved} → Models P u → Mode
 either P true h k = h
 either P false h k = k
 
-succeeded-model : (P : Model → Type 0) (fixed : Fixed) (q : Descent) (m : Model) (t : Evaluation) (v : ℕ) → P m → P (storedOf fixed q m t) → Models P (succeededOf fixed q m t v)
-unfolding succeededOf
-succeeded-model P fixed q m t v h k =
+succeeded_model : (P : Model → Type 0) (fixed : Fixed) (q : Descent) (m : Model) (t : Evaluation) (v : ℕ) → P m → P (stored_of fixed q m t) → Models P (succeeded_of fixed q m t v)
+unfolding succeeded_of
+succeeded_model P fixed q m t v h k =
     let o = fixed.options in
-    either P (not (allFiniteOf t.g fixed.n)) (record { holds = h })
-    (either P (smallDecreaseOf o.ftol q.line.f t.trial.value) (record { holds = k })
-    (either P (smallStepOf o.xtol q.line.x t.x fixed.n) (record { holds = k }) (record { holds = k })))
+    either P (not (all_finite_of t.g fixed.n)) (record { holds = h })
+    (either P (small_decrease_of o.ftol q.line.f t.trial.value) (record { holds = k })
+    (either P (small_step_of o.xtol q.line.x t.x fixed.n) (record { holds = k }) (record { holds = k })))
 
-settled-model : (P : Model → Type 0) (fixed : Fixed) (q : Descent) (m : Model) (v : ℕ) → P m → P (storedOf fixed q m q.search.best) → Models P (settledOf fixed q m v)
-unfolding settledOf
-settled-model P fixed q m v h k =
-    either P (eqb q.phase step.atHead) (record { holds = h })
+settled_model : (P : Model → Type 0) (fixed : Fixed) (q : Descent) (m : Model) (v : ℕ) → P m → P (stored_of fixed q m q.search.best) → Models P (settled_of fixed q m v)
+unfolding settled_of
+settled_model P fixed q m v h k =
+    either P (eqb q.phase step.at_head) (record { holds = h })
     (either P (not (eqb q.phase step.searching)) (record { holds = h })
-    (either P (eqb q.search.phase linesearch.found) (succeeded-model P fixed q m q.search.best v h k)
+    (either P (eqb q.search.phase linesearch.found) (succeeded_model P fixed q m q.search.best v h k)
     (either P (eqb q.search.phase linesearch.failed) (record { holds = h }) (record { holds = h }))))
 
-heard-named : (fixed : Fixed) → 0 < fixed.n → (q : Descent) (w : List Float) → Named q → Named (heardOf fixed q w)
-heard-named fixed some q w h = go (wantsGradient fixed q)
+heard_named : (fixed : Fixed) → 0 < fixed.n → (q : Descent) (w : List Float) → Named q → Named (heard_of fixed q w)
+heard_named fixed some q w h = go (wants_gradient fixed q)
   where
-    go : (b : Bool) → Named (cond b (toldGradientOf fixed q (fromSliceOf w fixed.n)) (toldOf fixed q (readOf (get_or w 0 nan))))
-    go true = told-gradient-named fixed some q (fromSliceOf w fixed.n) h
-    go false = told-named fixed some q (readOf (get_or w 0 nan)) h
+    go : (b : Bool) → Named (cond b (told_gradient_of fixed q (from_slice_of w fixed.n)) (told_of fixed q (read_of (get_or w 0 nan))))
+    go true = told_gradient_named fixed some q (from_slice_of w fixed.n) h
+    go false = told_named fixed some q (read_of (get_or w 0 nan)) h
 
 -- ---- the record after the words w of an answer to the open question
 
 abbrev pub next : Record → List Float → Record
-next r w = cond (gradientDueOf r) (gradedOf r (fromSliceOf w r.n)) (steppedOf r (get_or w 0 nan))
+next r w = cond (gradient_due_of r) (graded_of r (from_slice_of w r.n)) (stepped_of r (get_or w 0 nan))
 
 -- the allowance of values, as the text has it and as the record does
 abbrev pub AsLimit : Limit → ℕ → Type 0
 AsLimit (limit k) most = k ≡ most
-AsLimit unlimited most = most ≡ noLimit
+AsLimit unlimited most = most ≡ no_limit
 
 pub record Bounded (b : Budget) (r : Record) : Type 0 where
   pub iter : b.rounds ≡ r.limits.iter
   pub fevals : AsLimit b.limits.fevals r.limits.fevals
   pub evals : b.options.wolfe.evals ≤ 1000
   pub short : length b.x0 ≤ 16
-  pub counts : (κ : Kind) → ofBoth κ r.counts.fevals r.counts.gevals ≤ (bounding κ b).bound
-  pub keeps : (κ : Kind) → Within κ b (ofBoth κ r.counts.fevals r.counts.gevals) (restOf r)
+  pub counts : (κ : Kind) → of_both κ r.counts.fevals r.counts.gevals ≤ (bounding κ b).bound
+  pub keeps : (κ : Kind) → Within κ b (of_both κ r.counts.fevals r.counts.gevals) (rest_of r)
 
 pub low : (b : Budget) (r : Record) → Sound r → Bounded b r → Low r
 low b r S W =
     record {
-      values = le_trans (W.counts Value) (bound-low Value b (omega (arith, W.iter, S.iter)) W.evals W.short);
-      gradients = le_trans (W.counts Gradient) (bound-low Gradient b (omega (arith, W.iter, S.iter)) W.evals W.short);
+      values = le_trans (W.counts Value) (bound_low Value b (omega (arith, W.iter, S.iter)) W.evals W.short);
+      gradients = le_trans (W.counts Gradient) (bound_low Gradient b (omega (arith, W.iter, S.iter)) W.evals W.short);
     }
 
 module _ (r : Record) (S : Sound r) (w : List Float) where
   abbrev fixed : Fixed
-  fixed = gradientFixedOf r
+  fixed = gradient_fixed_of r
 
   abbrev q : Descent
   q = r.descent
 
   abbrev kind : Kind
-  kind = kindOf fixed q
+  kind = kind_of fixed q
 
   abbrev heard : Descent
-  heard = heardOf fixed q w
+  heard = heard_of fixed q w
 
-  abbrev madeBy : ℕ → ℕ → Descent → Record
-  madeBy v g h =
-      let m = settledOf fixed h r.model v in
+  abbrev made_by : ℕ → ℕ → Descent → Record
+  made_by v g h =
+      let m = settled_of fixed h r.model v in
       record {
         accepted = r.accepted + 1;
         job = r.job;
@@ -161,62 +161,62 @@ module _ (r : Record) (S : Sound r) (w : List Float) where
       }
 
   abbrev pub values : ℕ
-  values = r.counts.fevals + ofKind Value kind
+  values = r.counts.fevals + of_kind Value kind
 
   abbrev pub gradients : ℕ
-  gradients = r.counts.gevals + ofKind Gradient kind
+  gradients = r.counts.gevals + of_kind Gradient kind
 
   abbrev pub made : Record
-  made = madeBy values gradients heard
+  made = made_by values gradients heard
 
   abbrev g : List Float
-  g = fromSliceOf w r.n
+  g = from_slice_of w r.n
 
   abbrev v : Float
   v = get_or w 0 nan
 
-  graded : gradedOf r g ≡ madeBy r.counts.fevals (r.counts.gevals + 1) (toldGradientOf fixed q g)
-  unfolding gradedOf
-  graded = rw (no-search r.job S.job)
+  graded : graded_of r g ≡ made_by r.counts.fevals (r.counts.gevals + 1) (told_gradient_of fixed q g)
+  unfolding graded_of
+  graded = rw (no_search r.job S.job)
 
-  stepped : steppedOf r v ≡ madeBy (r.counts.fevals + 1) r.counts.gevals (toldOf fixed q (readOf v))
-  unfolding steppedOf
-  stepped = rw (no-simplex r.job S.job, no-search r.job S.job, S.job)
+  stepped : stepped_of r v ≡ made_by (r.counts.fevals + 1) r.counts.gevals (told_of fixed q (read_of v))
+  unfolding stepped_of
+  stepped = rw (no_simplex r.job S.job, no_search r.job S.job, S.job)
 
-  pub next-as : next r w ≡ made
-  next-as = ap by (due-as r S) ∙ go (wantsGradient fixed q)
+  pub next_as : next r w ≡ made
+  next_as = ap by (due_as r S) ∙ go (wants_gradient fixed q)
     where
       by : Bool → Record
-      by b = cond b (gradedOf r g) (steppedOf r v)
+      by b = cond b (graded_of r g) (stepped_of r v)
 
-      go : (b : Bool) → by b ≡ madeBy (r.counts.fevals + ofKind Value (cond b Gradient Value)) (r.counts.gevals + ofKind Gradient (cond b Gradient Value))
-          (cond b (toldGradientOf fixed q g) (toldOf fixed q (readOf v)))
-      go true = graded ∙ ap (λ (k : ℕ). madeBy k (r.counts.gevals + 1) (toldGradientOf fixed q g)) (sym (add-zero r.counts.fevals))
-      go false = stepped ∙ ap (λ (k : ℕ). madeBy (r.counts.fevals + 1) k (toldOf fixed q (readOf v))) (sym (add-zero r.counts.gevals))
+      go : (b : Bool) → by b ≡ made_by (r.counts.fevals + of_kind Value (cond b Gradient Value)) (r.counts.gevals + of_kind Gradient (cond b Gradient Value))
+          (cond b (told_gradient_of fixed q g) (told_of fixed q (read_of v)))
+      go true = graded ∙ ap (λ (k : ℕ). made_by k (r.counts.gevals + 1) (told_gradient_of fixed q g)) (sym (add-zero r.counts.fevals))
+      go false = stepped ∙ ap (λ (k : ℕ). made_by (r.counts.fevals + 1) k (told_of fixed q (read_of v))) (sym (add-zero r.counts.gevals))
 
-  one-more : (k : Kind) (a v g : ℕ) → a ≡ v + g → a + 1 ≡ v + ofKind Value k + (g + ofKind Gradient k)
-  one-more Value a v g e = omega arith
-  one-more Gradient a v g e = omega arith
+  one_more : (k : Kind) (a v g : ℕ) → a ≡ v + g → a + 1 ≡ v + of_kind Value k + (g + of_kind Gradient k)
+  one_more Value a v g e = omega arith
+  one_more Gradient a v g e = omega arith
 
-  heard-shaped : DescentShaped fixed heard
-  heard-shaped = (gradient-follows fixed).heard-shaped q w S.shape
+  heard_shaped : DescentShaped fixed heard
+  heard_shaped = (gradient_follows fixed).heard_shaped q w S.shape
 
-  pub made-sound : Sound made
-  made-sound =
-      let F = gradient-follows fixed in
-      let z = F.settled-shaped heard r.model values heard-shaped S.model in
-      let o = F.settled-zeros heard r.model values heard-shaped S.model (F.heard-zeros q w S.shape S.zeros) S.model-zeros in
+  pub made_sound : Sound made
+  made_sound =
+      let F = gradient_follows fixed in
+      let z = F.settled_shaped heard r.model values heard_shaped S.model in
+      let o = F.settled_zeros heard r.model values heard_shaped S.model (F.heard_zeros q w S.shape S.zeros) S.model_zeros in
       record {
         job = S.job;
-        numbers = one-more kind r.accepted r.counts.fevals r.counts.gevals S.numbers;
+        numbers = one_more kind r.accepted r.counts.fevals r.counts.gevals S.numbers;
         shape = z.0;
-        stands = F.settled-stands heard r.model values heard-shaped;
-        named = settled-named fixed S.shape.positive heard r.model values (heard-named fixed S.shape.positive q w S.named);
+        stands = F.settled_stands heard r.model values heard_shaped;
+        named = settled_named fixed S.shape.positive heard r.model values (heard_named fixed S.shape.positive q w S.named);
         zeros = o.0;
         model = z.1;
-        marked = still-marked r.job r.gradient.memory r.model _ S.marked
-            (settled-model (Alike r.model) fixed heard r.model values (record { limited = refl; memory = refl }) (stored-alike fixed heard r.model heard.search.best)).holds;
-        model-zeros = o.1;
+        marked = still_marked r.job r.gradient.memory r.model _ S.marked
+            (settled_model (Alike r.model) fixed heard r.model values (record { limited = refl; memory = refl }) (stored_alike fixed heard r.model heard.search.best)).holds;
+        model_zeros = o.1;
         iter = S.iter;
         fevals = S.fevals;
         evals = S.evals;
@@ -225,35 +225,35 @@ module _ (r : Record) (S : Sound r) (w : List Float) where
 
   -- ---- within the bounds
 
-  module _ (b : Budget) (W : Bounded b r) (e : asksOf q ≡ true) where
-    room : (κ : Kind) → Within κ b (ofBoth κ r.counts.fevals r.counts.gevals) (query kind (first r.n (probeOf fixed q)) (λ z. toDo fixed (heardOf fixed q z) r.model))
-    room κ = subst (Within κ b (ofBoth κ r.counts.fevals r.counts.gevals)) (asks r S e) (W.keeps κ)
+  module _ (b : Budget) (W : Bounded b r) (e : asks_of q ≡ true) where
+    room : (κ : Kind) → Within κ b (of_both κ r.counts.fevals r.counts.gevals) (query kind (first r.n (probe_of fixed q)) (λ z. to_do fixed (heard_of fixed q z) r.model))
+    room κ = subst (Within κ b (of_both κ r.counts.fevals r.counts.gevals)) (asks r S e) (W.keeps κ)
 
-    count-low : (κ : Kind) → ofBoth κ values gradients ≤ (bounding κ b).bound
-    count-low κ = subst (λ (k : ℕ). k ≤ (bounding κ b).bound) (bounds.one-more κ kind r.counts.fevals r.counts.gevals) (room κ).0
+    count_low : (κ : Kind) → of_both κ values gradients ≤ (bounding κ b).bound
+    count_low κ = subst (λ (k : ℕ). k ≤ (bounding κ b).bound) (bounds.one_more κ kind r.counts.fevals r.counts.gevals) (room κ).0
 
     allows : GradientAllows fixed b.limits values
     allows = record { iter = b.iter ∙ ap limit W.iter; fevals = by b.limits.fevals W.fevals }
       where
         few : values ≤ 33000000033
-        few = le_trans (count-low Value) (bound-low Value b (omega (arith, W.iter, S.iter)) W.evals W.short)
+        few = le_trans (count_low Value) (bound_low Value b (omega (arith, W.iter, S.iter)) W.evals W.short)
 
         by : (l : Limit) → AsLimit l r.limits.fevals → AllowsFevals l r.limits.fevals values
         by (limit k) h = h
         by unlimited h = omega (arith, h, few)
 
-    pub made-rest : settled b.limits values (toDo fixed heard r.model) ≡ restOf made
-    made-rest = (gradient-follows fixed).settles heard r.model b.limits values allows heard-shaped S.model
+    pub made_rest : settled b.limits values (to_do fixed heard r.model) ≡ rest_of made
+    made_rest = (gradient_follows fixed).settles heard r.model b.limits values allows heard_shaped S.model
 
-    pub made-within : Bounded b made
-    made-within =
+    pub made_within : Bounded b made
+    made_within =
         record {
           iter = W.iter;
           fevals = W.fevals;
           evals = W.evals;
           short = W.short;
-          counts = count-low;
-          keeps = λ κ. subst (Within κ b (ofBoth κ values gradients)) made-rest
-              (settled-keeps κ b values gradients (toDo fixed heard r.model)
-              (subst (λ (k : ℕ). Within κ b k (toDo fixed heard r.model)) (bounds.one-more κ kind r.counts.fevals r.counts.gevals) ((room κ).1 w)));
+          counts = count_low;
+          keeps = λ κ. subst (Within κ b (of_both κ values gradients)) made_rest
+              (settled_keeps κ b values gradients (to_do fixed heard r.model)
+              (subst (λ (k : ℕ). Within κ b k (to_do fixed heard r.model)) (bounds.one_more κ kind r.counts.fevals r.counts.gevals) ((room κ).1 w)));
         }

@@ -1,5 +1,5 @@
--- The code's engine follows the texts of all three fits, and so replies as they do (`as-algorithm`), has the mission's 3 (`code-claim`), their bounds
--- (`code-at-most`) and their refusals (`code-refusals`). Assumes nothing.
+-- The code's engine follows the texts of all three fits, and so replies as they do (`as_algorithm`), has the mission's 3 (`code_claim`), their bounds
+-- (`code_at_most`) and their refusals (`code_refusals`). Assumes nothing.
 use Prim.Native.Nat.{ℕ, ◌≤◌}
 use mathlib.Core.Path.{◌≡◌, sym, ◌∙◌, subst}
 use mathlib.Core.Logic.{◌⊎◌, inl, inr}
@@ -10,38 +10,38 @@ use Rattle.protocol.specs.declared.Allowances.{Allowances}
 use Rattle.protocol.specs.Protocol.{Question, Answer, Reply, Job, simplex, bfgs, lbfgs, Fit}
 use Rattle.protocol.specs.Dialogue.{F64s, GivenF64s, run, NotRefused, Started}
 use Rattle.protocol.specs.Rounds.{Kept}
-use Rattle.protocol.specs.Bounds.{questionsOf}
-use Rattle.protocol.specs.Places.{StepsLaws, Placed, startAt, answerAt}
+use Rattle.protocol.specs.Bounds.{questions_of}
+use Rattle.protocol.specs.Places.{StepsLaws, Placed, start_at, answer_at}
 use Rattle.protocol.specs.Follow.{Follows}
-use Rattle.protocol.proofs.FitsPlaces.{fits-steps-laws}
-use Rattle.protocol.proofs.Places.{places-follow}
-use Rattle.protocol.proofs.Follow.{alike, claim-follows}
-use Rattle.neldermead_theory.specs.Algorithm.{nelderMead}
-use Rattle.neldermead_theory.specs.Phases.{simplexSteps}
-use Rattle.neldermead_theory.proofs.Phases.{simplex-steps}
-use Rattle.quasinewton_theory.specs.Algorithm.{quasiNewton}
-use Rattle.optim_fits_theory.specs.Fits.{allFits, reference}
-use Rattle.optim_fits_theory.proofs.Fits.{mission, fits-claim}
+use Rattle.protocol.proofs.FitsPlaces.{fits_steps_laws}
+use Rattle.protocol.proofs.Places.{places_follow}
+use Rattle.protocol.proofs.Follow.{alike, claim_follows}
+use Rattle.neldermead_theory.specs.Algorithm.{nelder_mead}
+use Rattle.neldermead_theory.specs.Phases.{simplex_steps}
+use Rattle.neldermead_theory.proofs.Phases.{simplex_steps_lem}
+use Rattle.quasinewton_theory.specs.Algorithm.{quasi_newton}
+use Rattle.optim_fits_theory.specs.Fits.{all_fits, reference}
+use Rattle.optim_fits_theory.proofs.Fits.{mission, fits_claim}
 use Rattle.optim_record.specs.declared.Record.{Record}
-use Rattle.optim_theory.specs.Engine.{startCode, answerCode, code, CodeClaim, CodeAtMost, AsAlgorithm, CodeRefusals}
-use Rattle.optim_theory.proofs.Textual.{textual-laws}
+use Rattle.optim_theory.specs.Engine.{start_code, answer_code, code, CodeClaim, CodeAtMost, AsAlgorithm, CodeRefusals}
+use Rattle.optim_theory.proofs.Textual.{textual_laws}
 use Rattle.optim_theory.proofs.EngineRelated as simplexes
-use Rattle.optim_theory.proofs.EngineRelated.{gradientSteps, allSteps, Place}
+use Rattle.optim_theory.proofs.EngineRelated.{gradient_steps, all_steps, Place}
 use Rattle.optim_theory.proofs.EngineAnswers as simplexAnswers
-use Rattle.optim_theory.proofs.EngineStarts.{simplex-starts}
+use Rattle.optim_theory.proofs.EngineStarts.{simplex_starts}
 use Rattle.optim_theory.proofs.DescentAnswers as descents
-use Rattle.optim_theory.proofs.DescentStarts.{bfgs-starts, lbfgs-starts}
+use Rattle.optim_theory.proofs.DescentStarts.{bfgs_starts, lbfgs_starts}
 
 -- ---- the code follows the texts: simplex fits by their places, gradient fits at once
 
 abbrev Texts : Type 0
-Texts = Kept allFits.Position
+Texts = Kept all_fits.Position
 
-laws : StepsLaws allFits allSteps
-laws = fits-steps-laws nelderMead quasiNewton simplexSteps gradientSteps simplex-steps (textual-laws quasiNewton)
+laws : StepsLaws all_fits all_steps
+laws = fits_steps_laws nelder_mead quasi_newton simplex_steps gradient_steps simplex_steps_lem (textual_laws quasi_newton)
 
-places : Follows (Placed Place) Texts (startAt allFits allSteps) (answerAt allFits allSteps) reference.start reference.answer
-places = places-follow allFits allSteps laws
+places : Follows (Placed Place) Texts (start_at all_fits all_steps) (answer_at all_fits all_steps) reference.start reference.answer
+places = places_follow all_fits all_steps laws
 
 -- a record of a simplex fit stands for the text that its place stands for
 record Simplex (r : Record) (k : Texts) : Type 0 where
@@ -55,39 +55,39 @@ Relates r k = Simplex r k ⊎ descents.Relates r k
 -- ---- answers
 
 abbrev Replied : Record → Texts → Answer → Type 0
-Replied r k a = ((answerCode r a).0 ≡ (reference.answer k a).0) × Relates (answerCode r a).1 (reference.answer k a).1 × ((reference.answer k a).1 ≡ k → (answerCode r a).1 ≡ r)
+Replied r k a = ((answer_code r a).0 ≡ (reference.answer k a).0) × Relates (answer_code r a).1 (reference.answer k a).1 × ((reference.answer k a).1 ≡ k → (answer_code r a).1 ≡ r)
 
-simplex-answers : (r : Record) (k : Texts) (a : Answer) → F64s a.words → Simplex r k → Replied r k a
-simplex-answers r k a w S =
+simplex_answers : (r : Record) (k : Texts) (a : Answer) → F64s a.words → Simplex r k → Replied r k a
+simplex_answers r k a w S =
     let t = simplexAnswers.answers r S.place a S.relates in
     let u = places.answers S.place k a w S.stands in
-    (t.0 ∙ u.0, inl (record { place = (answerAt allFits allSteps S.place a).1; relates = t.1; stands = u.1 }), λ e. t.2 (places.stays S.place k a w S.stands e))
+    (t.0 ∙ u.0, inl (record { place = (answer_at all_fits all_steps S.place a).1; relates = t.1; stands = u.1 }), λ e. t.2 (places.stays S.place k a w S.stands e))
 
 answers : (r : Record) (k : Texts) (a : Answer) → F64s a.words → Relates r k → Replied r k a
-answers r k a w (inl S) = simplex-answers r k a w S
+answers r k a w (inl S) = simplex_answers r k a w S
 answers r k a w (inr D) = let t = descents.answers r k a D in (t.0, inr t.1, t.2)
 
 -- ---- starts
 
 abbrev Begun : Fit → Type 0
-Begun f = ((startCode f).0 ≡ (reference.start f).0) × (NotRefused (startCode f).0 → Relates (startCode f).1 (reference.start f).1)
+Begun f = ((start_code f).0 ≡ (reference.start f).0) × (NotRefused (start_code f).0 → Relates (start_code f).1 (reference.start f).1)
 
-by-job : (j : Job) (a : Allowances) (x : List Float) → Begun (record { job = j; allowances = a; x0 = x })
-by-job (simplex o) a x =
+by_job : (j : Job) (a : Allowances) (x : List Float) → Begun (record { job = j; allowances = a; x0 = x })
+by_job (simplex o) a x =
     let f : Fit = record { job = simplex o; allowances = a; x0 = x } in
-    let t = simplex-starts o a x in
+    let t = simplex_starts o a x in
     let u = places.starts f in
-    (t.0 ∙ u.0, λ n. inl (record { place = (startAt allFits allSteps f).1; relates = t.1 n; stands = u.1 (subst NotRefused t.0 n) }))
-by-job (bfgs o) a x = let t = bfgs-starts o a x in (t.0, λ n. inr (t.1 n))
-by-job (lbfgs o) a x = let t = lbfgs-starts o a x in (t.0, λ n. inr (t.1 n))
+    (t.0 ∙ u.0, λ n. inl (record { place = (start_at all_fits all_steps f).1; relates = t.1 n; stands = u.1 (subst NotRefused t.0 n) }))
+by_job (bfgs o) a x = let t = bfgs_starts o a x in (t.0, λ n. inr (t.1 n))
+by_job (lbfgs o) a x = let t = lbfgs_starts o a x in (t.0, λ n. inr (t.1 n))
 
 starts : (f : Fit) → Begun f
-starts f = by-job f.job f.allowances f.x0
+starts f = by_job f.job f.allowances f.x0
 
 -- ---- the mission's 3
 
-code-follows : Follows Record Texts startCode answerCode reference.start reference.answer
-code-follows =
+code_follows : Follows Record Texts start_code answer_code reference.start reference.answer
+code_follows =
     record {
       Related = Relates;
       starts = starts;
@@ -95,39 +95,39 @@ code-follows =
       stays = λ r k a w h. (answers r k a w h).2;
     }
 
-pub code-claim : CodeClaim
-code-claim = claim-follows Record Texts startCode answerCode reference.start reference.answer code-follows mission
+pub code_claim : CodeClaim
+code_claim = claim_follows Record Texts start_code answer_code reference.start reference.answer code_follows mission
 
 -- ---- the Algorithm's replies, and how many questions
 
-same-questions : (f : Fit) (l : List Answer) → Started code f → GivenF64s l → (run code f l).questions ≡ (run reference f l).questions
-same-questions f l n w = (alike Record Texts startCode answerCode reference.start reference.answer code-follows f l n w).questions
+same_questions : (f : Fit) (l : List Answer) → Started code f → GivenF64s l → (run code f l).questions ≡ (run reference f l).questions
+same_questions f l n w = (alike Record Texts start_code answer_code reference.start reference.answer code_follows f l n w).questions
 
-pub as-algorithm : AsAlgorithm
-as-algorithm =
+pub as_algorithm : AsAlgorithm
+as_algorithm =
     record {
-      start-reply = λ f. (starts f).0;
-      questions = same-questions;
-      exchanges = λ f l n w. (alike Record Texts startCode answerCode reference.start reference.answer code-follows f l n w).exchanges;
-      replies = λ f l n w. (alike Record Texts startCode answerCode reference.start reference.answer code-follows f l n w).replies;
+      start_reply = λ f. (starts f).0;
+      questions = same_questions;
+      exchanges = λ f l n w. (alike Record Texts start_code answer_code reference.start reference.answer code_follows f l n w).exchanges;
+      replies = λ f l n w. (alike Record Texts start_code answer_code reference.start reference.answer code_follows f l n w).replies;
     }
 
 -- a bound on the text's questions is one on the code's
 fewer : (f : Fit) (l : List Answer) (count : List Question → ℕ) (bound : ℕ) → Started code f → GivenF64s l → count (run reference f l).questions ≤ bound → count (run code f l).questions ≤ bound
-fewer f l count bound n w h = subst (λ (qs : List Question). count qs ≤ bound) (sym (same-questions f l n w)) h
+fewer f l count bound n w h = subst (λ (qs : List Question). count qs ≤ bound) (sym (same_questions f l n w)) h
 
-pub code-at-most : CodeAtMost
-code-at-most =
-    let S = fits-claim.simplex-questions in
-    let G = fits-claim.gradient-questions in
+pub code_at_most : CodeAtMost
+code_at_most =
+    let S = fits_claim.simplex_questions in
+    let G = fits_claim.gradient_questions in
     record {
-      by-fevals = λ f o M j m n l w. fewer f l length _ n w (S.by-fevals f o M j m l);
-      by-iterations = λ f o I j i n l w. fewer f l length _ n w (S.by-iterations f o I j i l);
-      with-gradients = λ κ f o I j e i n l w. fewer f l (questionsOf κ) _ n w (G.with-gradients κ f o I j e i l);
-      without-gradients = λ f o I j e i n l w. fewer f l length _ n w (G.without-gradients f o I j e i l);
+      by_fevals_lem = λ f o M j m n l w. fewer f l length _ n w (S.by_fevals_lem f o M j m l);
+      by_iterations_lem = λ f o I j i n l w. fewer f l length _ n w (S.by_iterations_lem f o I j i l);
+      with_gradients_lem = λ κ f o I j e i n l w. fewer f l (questions_of κ) _ n w (G.with_gradients_lem κ f o I j e i l);
+      without_gradients_lem = λ f o I j e i n l w. fewer f l length _ n w (G.without_gradients_lem f o I j e i l);
     }
 
 -- the text's refusals are the code's
-pub code-refusals : CodeRefusals
-code-refusals f l n w y m =
-    fits-claim.refusals f l (subst NotRefused (starts f).0 n) w y (subst (λ (ys : List Reply). Memᴰ y ys) (as-algorithm.replies f l n w) m)
+pub code_refusals : CodeRefusals
+code_refusals f l n w y m =
+    fits_claim.refusals f l (subst NotRefused (starts f).0 n) w y (subst (λ (ys : List Reply). Memᴰ y ys) (as_algorithm.replies f l n w) m)

@@ -1,4 +1,4 @@
--- A start of a simplex fit gets the reply of the start of the places, and where it is not refused their records are tied: `simplex-starts`. Assumes nothing.
+-- A start of a simplex fit gets the reply of the start of the places, and where it is not refused their records are tied: `simplex_starts`. Assumes nothing.
 use Prim.Native.Nat.{ℕ, ◌+◌, ◌*◌, ◌≤◌, zero-le}
 use native.Mathlib.Nat.{le_trans, mul-le-mul_left, mul-le-mul_right}
 use native.Mathlib.Omega.{arith}
@@ -10,37 +10,37 @@ use borrow.Author.Tests.{ltb-false, eqb-false}
 use lib.Dec.{eqb, ltb}
 use lib.ListN.{length}
 use lib.Ieee.{Float, le, lt}
-use Rattle.float.proofs.Tests.{cond-and}
-use Rattle.float.specs.Binary64.{plusZero}
-use Rattle.float.specs.Values.{finiteOf, toleranceOf, positiveOf}
+use Rattle.float.proofs.Tests.{cond_and}
+use Rattle.float.specs.Binary64.{plus_zero}
+use Rattle.float.specs.Values.{finite_of, tolerance_of, positive_of}
 use Rattle.vector.specs.Loops.{at}
-use Rattle.vector.specs.Lists.{first, allFinite}
-use Rattle.vector.specs.Points.{fromSliceOf, allFiniteOf}
-use Rattle.vector.proofs.First.{point-laws, ties}
-use Rattle.vector.proofs.Stores.{first-whole}
+use Rattle.vector.specs.Lists.{first, all_finite}
+use Rattle.vector.specs.Points.{from_slice_of, all_finite_of}
+use Rattle.vector.proofs.First.{point_laws, ties}
+use Rattle.vector.proofs.Stores.{first_whole}
 use Rattle.protocol.specs.declared.Allowance.{Allowance}
 use Rattle.protocol.specs.declared.Allowances.{Allowances}
 use Rattle.protocol.specs.declared.SimplexOptions.{SimplexOptions}
 use Rattle.protocol.specs.declared.Refusal.{Refusal}
-use Rattle.protocol.specs.Protocol.{refusal, Reply, simplex, Fit, allowanceOf}
+use Rattle.protocol.specs.Protocol.{refusal, Reply, simplex, Fit, allowance_of}
 use Rattle.protocol.specs.Dialogue.{NotRefused}
-use Rattle.protocol.specs.Claim.{limit, orDefault}
+use Rattle.protocol.specs.Claim.{limit, or_default}
 use Rattle.protocol.specs.PastLimits.{excess}
-use Rattle.protocol.specs.Rounds.{fails, FitLimits, limitsOf}
-use Rattle.protocol.specs.Places.{ends, Placed, putTurn, mapTurn, startAt}
-use Rattle.neldermead_theory.specs.Algorithm.{nowhere, tolerance, positiveFinite}
-use Rattle.neldermead_theory.specs.Phases.{Move, buildAt, openingMove}
+use Rattle.protocol.specs.Rounds.{fails, FitLimits, limits_of}
+use Rattle.protocol.specs.Places.{ends, Placed, put_turn, map_turn, start_at}
+use Rattle.neldermead_theory.specs.Algorithm.{nowhere, tolerance, positive_finite}
+use Rattle.neldermead_theory.specs.Phases.{Move, build_at, opening_move}
 use Rattle.neldermead_theory.specs.Follows.{RelatedMove, SimplexAllows}
-use Rattle.optim_fits_theory.specs.Fits.{allFits}
-use Rattle.neldermead_theory.proofs.Follows.{simplex-follows}
+use Rattle.optim_fits_theory.specs.Fits.{all_fits}
+use Rattle.neldermead_theory.proofs.Follows.{simplex_follows}
 use Rattle.optim_record.specs.declared.Record.{Record}
-use Rattle.optim_record.specs.Record.{mostAllowed, blankOf, fixedOf}
-use Rattle.optim_reply.specs.Standing.{refusedOf, standingOf}
-use Rattle.optim_reply.proofs.Says.{stands-keeps}
-use Rattle.optim_first_record.specs.Starts.{excessOf, pastLimitsOf, simplexRefusalOf, limitOf, simplexLimitsOf, simplexRecordOf}
-use Rattle.optim_start.specs.Start.{simplexOf}
-use Rattle.optim_theory.proofs.EngineBounded.{start-within, opening-keeps}
-use Rattle.optim_theory.proofs.EngineRelated.{allSteps, Place, putMove, Sound, Relates, put-related}
+use Rattle.optim_record.specs.Record.{most_allowed, blank_of, fixed_of}
+use Rattle.optim_reply.specs.Standing.{refused_of, standing_of}
+use Rattle.optim_reply.proofs.Says.{stands_keeps}
+use Rattle.optim_first_record.specs.Starts.{excess_of, past_limits_of, simplex_refusal_of, limit_of, simplex_limits_of, simplex_record_of}
+use Rattle.optim_start.specs.Start.{simplex_of}
+use Rattle.optim_theory.proofs.EngineBounded.{start_within, opening_keeps}
+use Rattle.optim_theory.proofs.EngineRelated.{all_steps, Place, put_move, Sound, Relates, put_related}
 
 -- the same reply, and records that are tied unless it is a refusal
 abbrev pub Begun : Reply × Record → Reply × Placed Place → Type 0
@@ -50,77 +50,77 @@ Begun y z = (y.0 ≡ z.0) × (NotRefused y.0 → Relates y.1 z.1)
 
 -- a refusal that is met, or what comes after it
 abbrev pub decide : Refusal → Reply × Record → Reply × Record
-decide why y = cond (not (eqb why.number 0)) (refusedOf blankOf why.number why.detail) y
+decide why y = cond (not (eqb why.number 0)) (refused_of blank_of why.number why.detail) y
 
 module _ (l : FitLimits) where
   -- one test
-  refuse : (b c : Bool) (k d : ℕ) (why : Refusal) (y : Reply × Record) (t : Move) → b ≡ c → eqb k 0 ≡ false → (c ≡ false → Begun (decide why y) (putMove l 0 t))
-      → Begun (decide (cond b (refusal k d) why) y) (putMove l 0 (cond c (ends (fails k d)) t))
-  refuse b c k d why y t e z h = subst (λ (a : Bool). Begun (decide (cond a (refusal k d) why) y) (putMove l 0 (cond c (ends (fails k d)) t))) (sym e) (go c h)
+  refuse : (b c : Bool) (k d : ℕ) (why : Refusal) (y : Reply × Record) (t : Move) → b ≡ c → eqb k 0 ≡ false → (c ≡ false → Begun (decide why y) (put_move l 0 t))
+      → Begun (decide (cond b (refusal k d) why) y) (put_move l 0 (cond c (ends (fails k d)) t))
+  refuse b c k d why y t e z h = subst (λ (a : Bool). Begun (decide (cond a (refusal k d) why) y) (put_move l 0 (cond c (ends (fails k d)) t))) (sym e) (go c h)
     where
-      go : (a : Bool) → (a ≡ false → Begun (decide why y) (putMove l 0 t)) → Begun (decide (cond a (refusal k d) why) y) (putMove l 0 (cond a (ends (fails k d)) t))
+      go : (a : Bool) → (a ≡ false → Begun (decide why y) (put_move l 0 t)) → Begun (decide (cond a (refusal k d) why) y) (put_move l 0 (cond a (ends (fails k d)) t))
       go true g = rw z (refl, λ n. absurd n)
       go false g = g refl
 
   -- those of refusal 2
-  refuse-two : (a b c d : Bool) (why : Refusal) (y : Reply × Record) (t : Move)
-      → (a ≡ false → b ≡ false → c ≡ false → d ≡ false → Begun (decide why y) (putMove l 0 t))
+  refuse_two : (a b c d : Bool) (why : Refusal) (y : Reply × Record) (t : Move)
+      → (a ≡ false → b ≡ false → c ≡ false → d ≡ false → Begun (decide why y) (put_move l 0 t))
       → Begun (decide (cond (cond a true (cond b true (cond c true d))) (refusal 2 0) why) y)
-      (putTurn allFits allSteps l 0 0 0 (cond (a || (b || (c || d))) (ends (fails 2 0)) (mapTurn inl inl t)))
-  refuse-two true b c d why y t h = (refl, λ n. absurd n)
-  refuse-two false true c d why y t h = (refl, λ n. absurd n)
-  refuse-two false false true d why y t h = (refl, λ n. absurd n)
-  refuse-two false false false true why y t h = (refl, λ n. absurd n)
-  refuse-two false false false false why y t h = h refl refl refl refl
+      (put_turn all_fits all_steps l 0 0 0 (cond (a || (b || (c || d))) (ends (fails 2 0)) (map_turn inl inl t)))
+  refuse_two true b c d why y t h = (refl, λ n. absurd n)
+  refuse_two false true c d why y t h = (refl, λ n. absurd n)
+  refuse_two false false true d why y t h = (refl, λ n. absurd n)
+  refuse_two false false false true why y t h = (refl, λ n. absurd n)
+  refuse_two false false false false why y t h = h refl refl refl refl
 
   -- the last one
-  refuse-point : (b c : Bool) (y : Reply × Record) (t : Move) → b ≡ c → (c ≡ true → Begun y (putMove l 0 t))
-      → Begun (cond (not b) (refusedOf blankOf 12 1) y) (putMove l 0 (cond (not c) (ends (fails 12 1)) t))
-  refuse-point b c y t e h = subst (λ (a : Bool). Begun (cond (not a) (refusedOf blankOf 12 1) y) (putMove l 0 (cond (not c) (ends (fails 12 1)) t))) (sym e) (go c h)
+  refuse_point : (b c : Bool) (y : Reply × Record) (t : Move) → b ≡ c → (c ≡ true → Begun y (put_move l 0 t))
+      → Begun (cond (not b) (refused_of blank_of 12 1) y) (put_move l 0 (cond (not c) (ends (fails 12 1)) t))
+  refuse_point b c y t e h = subst (λ (a : Bool). Begun (cond (not a) (refused_of blank_of 12 1) y) (put_move l 0 (cond (not c) (ends (fails 12 1)) t))) (sym e) (go c h)
     where
-      go : (a : Bool) → (a ≡ true → Begun y (putMove l 0 t)) → Begun (cond (not a) (refusedOf blankOf 12 1) y) (putMove l 0 (cond (not a) (ends (fails 12 1)) t))
+      go : (a : Bool) → (a ≡ true → Begun y (put_move l 0 t)) → Begun (cond (not a) (refused_of blank_of 12 1) y) (put_move l 0 (cond (not a) (ends (fails 12 1)) t))
       go true g = g refl
       go false g = (refl, λ n. absurd n)
 
 -- ---- each test is that of the Algorithm
 
-tolerance-as : (t : Float) → not (toleranceOf t) ≡ not (tolerance t)
-unfolding toleranceOf
-tolerance-as t = ap not (cond-and (le plusZero t) (finiteOf t))
+tolerance_as : (t : Float) → not (tolerance_of t) ≡ not (tolerance t)
+unfolding tolerance_of
+tolerance_as t = ap not (cond_and (le plus_zero t) (finite_of t))
 
-positive-as : (t : Float) → not (positiveOf t) ≡ not (positiveFinite t)
-unfolding positiveOf
-positive-as t = ap not (cond-and (lt plusZero t) (finiteOf t))
+positive_as : (t : Float) → not (positive_of t) ≡ not (positive_finite t)
+unfolding positive_of
+positive_as t = ap not (cond_and (lt plus_zero t) (finite_of t))
 
 -- an allowance is given or absent, beside whatever count
-pub by-given : (P : Allowance → Type 0) → ((k : ℕ) → P (record { given = true; count = k })) → ((k : ℕ) → P (record { given = false; count = k })) → (a : Allowance) → P a
-by-given P given absent a = go a.given a.count
+pub by_given : (P : Allowance → Type 0) → ((k : ℕ) → P (record { given = true; count = k })) → ((k : ℕ) → P (record { given = false; count = k })) → (a : Allowance) → P a
+by_given P given absent a = go a.given a.count
   where
     go : (b : Bool) (k : ℕ) → P (record { given = b; count = k })
     go true k = given k
     go false k = absent k
 
-pub excess-as : (a : Allowance) → excessOf a ≡ excess (allowanceOf a)
-unfolding excessOf
-excess-as = by-given (λ a. excessOf a ≡ excess (allowanceOf a)) (λ k. refl) (λ k. refl)
+pub excess_as : (a : Allowance) → excess_of a ≡ excess (allowance_of a)
+unfolding excess_of
+excess_as = by_given (λ a. excess_of a ≡ excess (allowance_of a)) (λ k. refl) (λ k. refl)
 
 -- a limit is the allowance, or its default d
-pub limit-as : (d : ℕ) (a : Allowance) → orDefault (allowanceOf a) (limit d) ≡ limit (limitOf a d)
-unfolding limitOf
-limit-as d = by-given (λ a. orDefault (allowanceOf a) (limit d) ≡ limit (limitOf a d)) (λ k. refl) (λ k. refl)
+pub limit_as : (d : ℕ) (a : Allowance) → or_default (allowance_of a) (limit d) ≡ limit (limit_of a d)
+unfolding limit_of
+limit_as d = by_given (λ a. or_default (allowance_of a) (limit d) ≡ limit (limit_of a d)) (λ k. refl) (λ k. refl)
 
 -- the point of sixteen coordinates is the list
-pub whole : (x : List Float) → first (length x) (fromSliceOf x (length x)) ≡ x
-whole x = ties.from-slice x (length x) ∙ first-whole x
+pub whole : (x : List Float) → first (length x) (from_slice_of x (length x)) ≡ x
+whole x = ties.from_slice x (length x) ∙ first_whole x
 
-pub finite-as : (x : List Float) → allFiniteOf (fromSliceOf x (length x)) (length x) ≡ allFinite x
-finite-as x = ties.all-finite (fromSliceOf x (length x)) (length x) ∙ ap allFinite (whole x)
+pub finite_as : (x : List Float) → all_finite_of (from_slice_of x (length x)) (length x) ≡ all_finite x
+finite_as x = ties.all_finite_lem (from_slice_of x (length x)) (length x) ∙ ap all_finite (whole x)
 
 -- an allowance that is not refused, or its default, is low
-limit-low : (n restarts : ℕ) → n ≤ 16 → restarts ≤ 100 → (a : Allowance) → excess (allowanceOf a) ≡ false → limitOf a (200 * n * (1 + restarts)) ≤ mostAllowed
-unfolding limitOf
-limit-low n restarts h j =
-    by-given (λ a. excess (allowanceOf a) ≡ false → limitOf a (200 * n * (1 + restarts)) ≤ mostAllowed) (λ k e. ltb-false mostAllowed k e)
+limit_low : (n restarts : ℕ) → n ≤ 16 → restarts ≤ 100 → (a : Allowance) → excess (allowance_of a) ≡ false → limit_of a (200 * n * (1 + restarts)) ≤ most_allowed
+unfolding limit_of
+limit_low n restarts h j =
+    by_given (λ a. excess (allowance_of a) ≡ false → limit_of a (200 * n * (1 + restarts)) ≤ most_allowed) (λ k e. ltb-false most_allowed k e)
     (λ k e. low (200 * n * (1 + restarts)) (le_trans (mul-le-mul_right (1 + restarts) small) (mul-le-mul_left 3200 more)))
   where
     small : 200 * n ≤ 3200
@@ -129,7 +129,7 @@ limit-low n restarts h j =
     more : 1 + restarts ≤ 101
     more = omega arith
 
-    low : (m : ℕ) → m ≤ 3200 * 101 → m ≤ mostAllowed
+    low : (m : ℕ) → m ≤ 3200 * 101 → m ≤ most_allowed
     low m i = omega arith
 
 -- ---- a simplex fit
@@ -142,60 +142,60 @@ module _ (o : SimplexOptions) (a : Allowances) (x : List Float) where
   n = length x
 
   abbrev point : List Float
-  point = fromSliceOf x n
+  point = from_slice_of x n
 
   abbrev made : Record
-  made = simplexRecordOf point n o a
+  made = simplex_record_of point n o a
 
-  allows : SimplexAllows (fixedOf made) (limitsOf fit)
-  unfolding simplexRecordOf simplexLimitsOf
-  allows = let default = 200 * n * (1 + o.restarts) in record { iter = limit-as default a.iter; fevals = limit-as default a.fevals }
+  allows : SimplexAllows (fixed_of made) (limits_of fit)
+  unfolding simplex_record_of simplex_limits_of
+  allows = let default = 200 * n * (1 + o.restarts) in record { iter = limit_as default a.iter; fevals = limit_as default a.fevals }
 
-  made-sound : n ≤ 16 → 1 ≤ n → o.restarts ≤ 100 → excess (allowanceOf a.iter) ≡ false → excess (allowanceOf a.fevals) ≡ false → Sound made
-  unfolding simplexRecordOf simplexLimitsOf fromSliceOf
-  made-sound small above few p q =
+  made_sound : n ≤ 16 → 1 ≤ n → o.restarts ≤ 100 → excess (allowance_of a.iter) ≡ false → excess (allowance_of a.fevals) ≡ false → Sound made
+  unfolding simplex_record_of simplex_limits_of from_slice_of
+  made_sound small above few p q =
       record {
         job = refl;
         numbers = zero-le;
         values = refl;
         gradients = refl;
-        shape = simplex-follows.start-shaped n point above small (point-laws.width (at x) n small);
-        zeros = simplex-follows.start-zeros n point (λ k. point-laws.past (at x) n k);
-        within = start-within (fixedOf made) point;
-        iter = limit-low n o.restarts small few a.iter p;
-        fevals = limit-low n o.restarts small few a.fevals q;
+        shape = simplex_follows.start_shaped n point above small (point_laws.width (at x) n small);
+        zeros = simplex_follows.start_zeros n point (λ k. point_laws.past (at x) n k);
+        within = start_within (fixed_of made) point;
+        iter = limit_low n o.restarts small few a.iter p;
+        fevals = limit_low n o.restarts small few a.fevals q;
         restarts = few;
       }
 
-  moves : RelatedMove (fixedOf made) made.simplex (buildAt (nowhere o x) x)
-  unfolding simplexRecordOf
-  moves = subst (λ (z : List Float). RelatedMove (fixedOf made) made.simplex (buildAt (nowhere o z) z)) (whole x) (simplex-follows.starts (fixedOf made) point)
+  moves : RelatedMove (fixed_of made) made.simplex (build_at (nowhere o x) x)
+  unfolding simplex_record_of
+  moves = subst (λ (z : List Float). RelatedMove (fixed_of made) made.simplex (build_at (nowhere o z) z)) (whole x) (simplex_follows.starts (fixed_of made) point)
 
-  begins : Sound made → openingMove o x ≡ buildAt (nowhere o x) x → Begun (standingOf made) (putMove (limitsOf fit) 0 (buildAt (nowhere o x) x))
-  unfolding simplexRecordOf
+  begins : Sound made → opening_move o x ≡ build_at (nowhere o x) x → Begun (standing_of made) (put_move (limits_of fit) 0 (build_at (nowhere o x) x))
+  unfolding simplex_record_of
   begins S opened =
-      let b = opening-keeps made.limits.fevals o x (limitsOf fit) allows.fevals in
-      let t = put-related made S (limitsOf fit) allows x refl (buildAt (nowhere o x) x) moves (rw opened at b) in
-      (t.0, λ m. subst (λ (z : Record). Relates z (putMove (limitsOf fit) 0 (buildAt (nowhere o x) x)).1) (sym (stands-keeps made)) t.1)
+      let b = opening_keeps made.limits.fevals o x (limits_of fit) allows.fevals in
+      let t = put_related made S (limits_of fit) allows x refl (build_at (nowhere o x) x) moves (rw opened at b) in
+      (t.0, λ m. subst (λ (z : Record). Relates z (put_move (limits_of fit) 0 (build_at (nowhere o x) x)).1) (sym (stands_keeps made)) t.1)
 
-  pub simplex-starts : Begun (simplexOf x o a) (startAt allFits allSteps fit)
-  unfolding simplexOf simplexRefusalOf pastLimitsOf
-  simplex-starts =
-      rw (excess-as a.iter, excess-as a.fevals)
-      (refuse-two l (ltb 16 n) (excess (allowanceOf a.iter)) (excess (allowanceOf a.fevals)) (ltb 100 o.restarts) _ _ (openingMove o x)
+  pub simplex_starts : Begun (simplex_of x o a) (start_at all_fits all_steps fit)
+  unfolding simplex_of simplex_refusal_of past_limits_of
+  simplex_starts =
+      rw (excess_as a.iter, excess_as a.fevals)
+      (refuse_two l (ltb 16 n) (excess (allowance_of a.iter)) (excess (allowance_of a.fevals)) (ltb 100 o.restarts) _ _ (opening_move o x)
       (λ long p q many.
-      refuse l (not (toleranceOf o.xtol)) (not (tolerance o.xtol)) 4 1 _ _ _ (tolerance-as o.xtol) refl
-      (λ xtol. refuse l (not (toleranceOf o.ftol)) (not (tolerance o.ftol)) 4 2 _ _ _ (tolerance-as o.ftol) refl
-      (λ ftol. refuse l (not (positiveOf o.step)) (not (positiveFinite o.step)) 8 0 _ _ _ (positive-as o.step) refl
+      refuse l (not (tolerance_of o.xtol)) (not (tolerance o.xtol)) 4 1 _ _ _ (tolerance_as o.xtol) refl
+      (λ xtol. refuse l (not (tolerance_of o.ftol)) (not (tolerance o.ftol)) 4 2 _ _ _ (tolerance_as o.ftol) refl
+      (λ ftol. refuse l (not (positive_of o.step)) (not (positive_finite o.step)) 8 0 _ _ _ (positive_as o.step) refl
       (λ step. refuse l (eqb n 0) (eqb n 0) 9 0 (refusal 0 0) _ _ refl refl
-      (λ unknowns. refuse-point l (allFiniteOf point n) (allFinite x) _ _ (finite-as x)
+      (λ unknowns. refuse_point l (all_finite_of point n) (all_finite x) _ _ (finite_as x)
       (λ finite. begins
-      (made-sound (ltb-false 16 n long) (above n (eqb-false n 0 unknowns)) (ltb-false 100 o.restarts many) p q)
+      (made_sound (ltb-false 16 n long) (above n (eqb-false n 0 unknowns)) (ltb-false 100 o.restarts many) p q)
       (rw (xtol, ftol, step, unknowns, finite))))))))
       )
     where
       l : FitLimits
-      l = limitsOf fit
+      l = limits_of fit
 
       above : (k : ℕ) → (k ≡ 0 → ⊥) → 1 ≤ k
       above k d = omega arith

@@ -1,4 +1,4 @@
--- The code's definitions compute the lists of specs/Examples to their results (`computed`), and these meet every hypothesis of both parts of the mission's 3 (`not-vacuous`). Assumes nothing.
+-- The code's definitions compute the lists of specs/Examples to their results (`computed`), and these meet every hypothesis of both parts of the mission's 3 (`not_vacuous`). Assumes nothing.
 use mathlib.Core.Path.{refl}
 use mathlib.Core.List.{List, [], ◌∷◌, ◌++◌}
 use Prim.Native.Nat.{ℕ, zero-le}
@@ -8,7 +8,7 @@ use Rattle.protocol.specs.declared.Kind.{Kind}
 use Rattle.protocol.specs.declared.Kind.TheVariants.{Value, Gradient}
 use Rattle.protocol.specs.Dialogue.{run, Started}
 use Rattle.protocol.specs.Example.{Reaches, Pair, given, absent}
-use Rattle.protocol.proofs.NotVacuous.{of-one, of-two, AnsweredBy, one-objective, third, fifth, word}
+use Rattle.protocol.proofs.NotVacuous.{of_one, of_two_lem, AnsweredBy, one_objective, third, fifth, word}
 use Rattle.float.specs.Values as values
 use Rattle.vector.specs.Points as points
 use Rattle.vector.specs.Lists as lists
@@ -30,64 +30,64 @@ use Rattle.optim.specs.Answer as answers
 use Rattle.optim_start.specs.Start as starts
 use Rattle.float.specs.Order as order
 use Rattle.optim_theory.specs.Engine.{code}
-use Rattle.optim_theory.specs.Examples.{zero, one, two, aNaN, minusInfinity, sample, sampleAnswers, sampleResult, nonFiniteAnswers, nonFiniteResult, dense, limited, openingAnswers, wholeAnswers, stoppedResult, wholeResult, Computed, NotVacuous}
-use Rattle.optim_theory.proofs.Engine.{code-claim}
+use Rattle.optim_theory.specs.Examples.{zero, one, two, a_na_n, minus_infinity, sample, sample_answers, sample_result, non_finite_answers, non_finite_result, dense, limited, opening_answers, whole_answers, stopped_result, whole_result, Computed, NotVacuous}
+use Rattle.optim_theory.proofs.Engine.{code_claim}
 
 -- ---- one objective
 
 -- x² of one coordinate, with its gradient
-abbrev squareAt : Kind → Float → Float
-squareAt Value x = x ⊗ x
-squareAt Gradient x = x ⊕ x
+abbrev square_at : Kind → Float → Float
+square_at Value x = x ⊗ x
+square_at Gradient x = x ⊕ x
 
 abbrev square : Kind → List Float → List Float
 square k [] = []
-square k (x ∷ xs) = squareAt k x ∷ []
+square k (x ∷ xs) = square_at k x ∷ []
 
 -- ---- what is computed
 
 -- the runs, that their starts are not refused, and that the runs of bfgs are told x²
 record Facts : Type 0 where
   runs : Computed
-  simplex-starts : (k : ℕ) → Started code (sample k)
-  bfgs-starts : Started code (dense (absent 0))
-  lbfgs-starts : Started code limited
-  stopped-starts : Started code (dense (given 0))
-  squares : AnsweredBy square ((run code (dense (given 0)) openingAnswers).exchanges ++ (run code (dense (absent 0)) wholeAnswers).exchanges)
+  simplex_starts : (k : ℕ) → Started code (sample k)
+  bfgs_starts : Started code (dense (absent 0))
+  lbfgs_starts : Started code limited
+  stopped_starts : Started code (dense (given 0))
+  squares : AnsweredBy square ((run code (dense (given 0)) opening_answers).exchanges ++ (run code (dense (absent 0)) whole_answers).exchanges)
 
 facts : Facts
-unfolding to_bits of_bits of_fields of_int span climb size odd units round neg is_nan sum add sub mul div lt le eq values.absOf values.finiteOf
-    values.toleranceOf values.positiveOf values.maxOf values.minOf points.fromSliceOf points.dotOf points.infNormOf points.allFiniteOf
-    points.plusScaledOf points.minusScaledOf points.differenceOf points.additionOf points.quotientOf points.scaledOf points.negationOf
-    points.towardsOf points.rowDotOf points.matVecOf lists.first protocol.readOf records.wolfeOptionsOf records.idleOf records.blankOf
-    records.gradientJobOf records.validSimplexOf records.validSearchPartOf records.knownRefusalOf records.validEndingOf records.validOptionsOf
-    records.validModelOf records.validDescentOf records.validOf stands.overOf stands.gradientDueOf stands.terminationOf stands.resultOf
-    stands.standingSimplexOf stands.descentTerminationOf stands.descentConvergedOf stands.descentResultOf stands.standingDescentOf stands.standingOf
-    firsts.excessOf firsts.pastLimitsOf firsts.simplexRefusalOf firsts.limitOf firsts.simplexLimitsOf firsts.simplexRecordOf
-    firsts.gradientPastLimitsOf firsts.orderedOf firsts.noMemoryOf firsts.gradientRefusalOf firsts.gradientLimitsOf firsts.keptOptionsOf
-    firsts.gradientMarkOf firsts.gradientRecordOf rules.repeatsOf answers.steppedOf answers.gradedOf answers.takenOf answers.takenGradientOf
-    rules.suitsOf answers.heardOf answers.answerOf starts.simplexOf starts.gradientOf starts.bfgsOf starts.lbfgsOf vertexOrder.inOrder method.beta
-    method.gamma method.delta method.displaced method.resolution method.better vertices.putOf vertices.insertedOf vertices.sortedOf vertices.summedOf
-    vertices.centroidOf vertices.cornerOf vertices.sizeOf vertices.anyFiniteOf vertices.flatOf vertices.convergedOf neldermead.orderedOf
-    neldermead.trialOf neldermead.reflectOf neldermead.reasonOf neldermead.doneOf neldermead.testedOf neldermead.headedOf neldermead.buildOf
-    neldermead.settledOf neldermead.builtOf neldermead.replacedOf neldermead.reflectedOf neldermead.insideOf neldermead.toldOf neldermead.startOf
-    order.precedesOf order.keyOf trials.startOf trials.armijoOf trials.curvatureOf lines.lineFromOf lines.optionsRefusalOf lines.countsRefusalOf
-    lines.lineRefusalOf linesearch.pointAtOf linesearch.evaluatedOf linesearch.precedingOf linesearch.risenOf linesearch.lowerOf linesearch.keepOf
-    linesearch.successOf linesearch.evalOf linesearch.bracketOf linesearch.bracketedOf linesearch.decidedOf linesearch.gradedOf
-    linesearch.evalGradientOf linesearch.valuedOf linesearch.begunOf linesearch.probeOf linesearch.toldOf linesearch.toldGradientOf hessian.diagonalOf
-    hessian.updateRowOf hessian.updateRowsOf hessian.preparedOf hessian.denseUpdateOf hessian.denseDirectionOf hessian.downOf hessian.downFrom
-    hessian.allDownOf hessian.upOf hessian.allUpOf hessian.limitedDirectionOf hessian.roomOf hessian.gammaOf hessian.limitedUpdateOf hessian.noPairsOf
-    hessian.blankOf hessian.newModelOf hessian.directionOf hessian.updateOf quasinewton.storesOf quasinewton.smallDecreaseOf quasinewton.smallStepOf
-    quasinewton.initialStepOf quasinewton.notDescendingOf quasinewton.soughtOf quasinewton.searchedOf quasinewton.directedOf quasinewton.headedOf
-    quasinewton.storedOf quasinewton.steppedOf quasinewton.succeededOf quasinewton.settledOf quasinewton.asksOf quasinewton.gradientDueOf
-    quasinewton.gradedOf quasinewton.valuedOf quasinewton.probeOf quasinewton.toldOf quasinewton.toldGradientOf quasinewton.idleOf quasinewton.startOf
+unfolding to_bits of_bits of_fields of_int span climb size odd units round neg is_nan sum add sub mul div lt le eq values.abs_of values.finite_of
+    values.tolerance_of values.positive_of values.max_of values.min_of points.from_slice_of points.dot_of points.inf_norm_of points.all_finite_of
+    points.plus_scaled_of points.minus_scaled_of points.difference_of points.addition_of points.quotient_of points.scaled_of points.negation_of
+    points.towards_of points.row_dot_of points.mat_vec_of lists.first protocol.read_of records.wolfe_options_of records.idle_of records.blank_of
+    records.gradient_job_of records.valid_simplex_of records.valid_search_part_of records.known_refusal_of records.valid_ending_of records.valid_options_of
+    records.valid_model_of records.valid_descent_of records.valid_of stands.over_of stands.gradient_due_of stands.termination_of stands.result_of
+    stands.standing_simplex_of stands.descent_termination_of stands.descent_converged_of stands.descent_result_of stands.standing_descent_of stands.standing_of
+    firsts.excess_of firsts.past_limits_of firsts.simplex_refusal_of firsts.limit_of firsts.simplex_limits_of firsts.simplex_record_of
+    firsts.gradient_past_limits_of firsts.ordered_of firsts.no_memory_of firsts.gradient_refusal_of firsts.gradient_limits_of firsts.kept_options_of
+    firsts.gradient_mark_of firsts.gradient_record_of rules.repeats_of answers.stepped_of answers.graded_of answers.taken_of answers.taken_gradient_of
+    rules.suits_of answers.heard_of answers.answer_of starts.simplex_of starts.gradient_of starts.bfgs_of starts.lbfgs_of vertexOrder.in_order method.beta
+    method.gamma method.delta method.displaced method.resolution method.better vertices.put_of vertices.inserted_of vertices.sorted_of vertices.summed_of
+    vertices.centroid_of vertices.corner_of vertices.size_of vertices.any_finite_of vertices.flat_of vertices.converged_of neldermead.ordered_of
+    neldermead.trial_of neldermead.reflect_of neldermead.reason_of neldermead.done_of neldermead.tested_of neldermead.headed_of neldermead.build_of
+    neldermead.settled_of neldermead.built_of neldermead.replaced_of neldermead.reflected_of neldermead.inside_of neldermead.told_of neldermead.start_of
+    order.precedes_of order.key_of trials.start_of trials.armijo_of trials.curvature_of lines.line_from_of lines.options_refusal_of lines.counts_refusal_of
+    lines.line_refusal_of linesearch.point_at_of linesearch.evaluated_of linesearch.preceding_of linesearch.risen_of linesearch.lower_of linesearch.keep_of
+    linesearch.success_of linesearch.eval_of linesearch.bracket_of linesearch.bracketed_of linesearch.decided_of linesearch.graded_of
+    linesearch.eval_gradient_of linesearch.valued_of linesearch.begun_of linesearch.probe_of linesearch.told_of linesearch.told_gradient_of hessian.diagonal_of
+    hessian.update_row_of hessian.update_rows_of hessian.prepared_of hessian.dense_update_of hessian.dense_direction_of hessian.down_of hessian.down_from
+    hessian.all_down_of hessian.up_of hessian.all_up_of hessian.limited_direction_of hessian.room_of hessian.gamma_of hessian.limited_update_of hessian.no_pairs_of
+    hessian.blank_of hessian.new_model_of hessian.direction_of hessian.update_of quasinewton.stores_of quasinewton.small_decrease_of quasinewton.small_step_of
+    quasinewton.initial_step_of quasinewton.not_descending_of quasinewton.sought_of quasinewton.searched_of quasinewton.directed_of quasinewton.headed_of
+    quasinewton.stored_of quasinewton.stepped_of quasinewton.succeeded_of quasinewton.settled_of quasinewton.asks_of quasinewton.gradient_due_of
+    quasinewton.graded_of quasinewton.valued_of quasinewton.probe_of quasinewton.told_of quasinewton.told_gradient_of quasinewton.idle_of quasinewton.start_of
 facts =
     record {
-      runs = record { simplex-run = λ k. refl; non-finite-run = refl; bfgs-run = refl; lbfgs-run = refl; stopped-run = refl };
-      simplex-starts = λ k. tt;
-      bfgs-starts = tt;
-      lbfgs-starts = tt;
-      stopped-starts = tt;
+      runs = record { simplex_run = λ k. refl; non_finite_run = refl; bfgs_run = refl; lbfgs_run = refl; stopped_run = refl };
+      simplex_starts = λ k. tt;
+      bfgs_starts = tt;
+      lbfgs_starts = tt;
+      stopped_starts = tt;
       squares = (refl, (refl, (refl, (refl, (refl, (refl, tt))))));
     }
 
@@ -96,59 +96,59 @@ computed = facts.runs
 
 -- ---- the hypotheses
 
-simplex-reaches : (k : ℕ) → Reaches code (sample k) sampleAnswers sampleResult
-simplex-reaches k =
-    record { started = facts.simplex-starts k; given = (word two, (word one, tt)); brings = rw (computed.simplex-run k) third }
+simplex_reaches : (k : ℕ) → Reaches code (sample k) sample_answers sample_result
+simplex_reaches k =
+    record { started = facts.simplex_starts k; given = (word two, (word one, tt)); brings = rw (computed.simplex_run k) third }
 
-non-finite-reaches : Reaches code (sample 0) nonFiniteAnswers nonFiniteResult
-non-finite-reaches =
+non_finite_reaches : Reaches code (sample 0) non_finite_answers non_finite_result
+non_finite_reaches =
     record {
-      started = facts.simplex-starts 0;
-      given = (word aNaN, (word one, (word minusInfinity, (word one, tt))));
-      brings = rw computed.non-finite-run fifth;
+      started = facts.simplex_starts 0;
+      given = (word a_na_n, (word one, (word minus_infinity, (word one, tt))));
+      brings = rw computed.non_finite_run fifth;
     }
 
-bfgs-reaches : Reaches code (dense (absent 0)) wholeAnswers wholeResult
-bfgs-reaches =
+bfgs_reaches : Reaches code (dense (absent 0)) whole_answers whole_result
+bfgs_reaches =
     record {
-      started = facts.bfgs-starts;
+      started = facts.bfgs_starts;
       given = (word one, (word two, (word zero, (word zero, tt))));
-      brings = rw computed.bfgs-run fifth;
+      brings = rw computed.bfgs_run fifth;
     }
 
-lbfgs-reaches : Reaches code limited wholeAnswers wholeResult
-lbfgs-reaches =
+lbfgs_reaches : Reaches code limited whole_answers whole_result
+lbfgs_reaches =
     record {
-      started = facts.lbfgs-starts;
+      started = facts.lbfgs_starts;
       given = (word one, (word two, (word zero, (word zero, tt))));
-      brings = rw computed.lbfgs-run fifth;
+      brings = rw computed.lbfgs_run fifth;
     }
 
-stopped-reaches : Reaches code (dense (given 0)) openingAnswers stoppedResult
-stopped-reaches =
-    record { started = facts.stopped-starts; given = (word one, (word two, tt)); brings = rw computed.stopped-run third }
+stopped_reaches : Reaches code (dense (given 0)) opening_answers stopped_result
+stopped_reaches =
+    record { started = facts.stopped_starts; given = (word one, (word two, tt)); brings = rw computed.stopped_run third }
 
 -- the first stops for an allowance that is then raised
-raised : Pair code (dense (given 0)) (dense (absent 0)) openingAnswers wholeAnswers stoppedResult wholeResult
+raised : Pair code (dense (given 0)) (dense (absent 0)) opening_answers whole_answers stopped_result whole_result
 raised =
     record {
-      first = stopped-reaches;
-      second = bfgs-reaches;
+      first = stopped_reaches;
+      second = bfgs_reaches;
       again = record { job = refl; x0 = refl; iter = zero-le; fevals = tt };
-      by-point = one-objective square _ facts.squares;
+      by_point = one_objective square _ facts.squares;
     }
 
 -- ---- both parts hold of them
 
-pub not-vacuous : NotVacuous
-not-vacuous =
+pub not_vacuous : NotVacuous
+not_vacuous =
     record {
-      simplex-reaches = simplex-reaches;
-      non-finite-reaches = non-finite-reaches;
-      bfgs-reaches = bfgs-reaches;
-      lbfgs-reaches = lbfgs-reaches;
+      simplex_reaches = simplex_reaches;
+      non_finite_reaches = non_finite_reaches;
+      bfgs_reaches = bfgs_reaches;
+      lbfgs_reaches = lbfgs_reaches;
       raised = raised;
-      simplex-one = λ k. of-one code-claim (simplex-reaches k);
-      non-finite-one = of-one code-claim non-finite-reaches;
-      raised-two = of-two code-claim raised;
+      simplex_one = λ k. of_one code_claim (simplex_reaches k);
+      non_finite_one = of_one code_claim non_finite_reaches;
+      raised_two = of_two_lem code_claim raised;
     }

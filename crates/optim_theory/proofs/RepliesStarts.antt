@@ -6,27 +6,27 @@ use mathlib.Core.List.{List}
 use lib.Dec.{T, eqb, ltb}
 use lib.ListN.{length}
 use lib.Ieee.{Float, lt, le}
-use Rattle.float.specs.Binary64.{plusZero}
-use Rattle.float.specs.Values.{finiteOf, toleranceOf, positiveOf}
-use Rattle.vector.specs.Points.{fromSliceOf, allFiniteOf}
+use Rattle.float.specs.Binary64.{plus_zero}
+use Rattle.float.specs.Values.{finite_of, tolerance_of, positive_of}
+use Rattle.vector.specs.Points.{from_slice_of, all_finite_of}
 use Rattle.protocol.specs.declared.SimplexOptions.{SimplexOptions}
 use Rattle.protocol.specs.declared.GradientOptions.{GradientOptions}
 use Rattle.protocol.specs.declared.Allowances.{Allowances}
 use Rattle.protocol.specs.declared.WolfeOptions.{WolfeOptions}
 use Rattle.protocol.specs.declared.Refusal.{Refusal}
-use Rattle.protocol.specs.Protocol.{Question, Outcome, Reply, ask, ended, noRefusal}
+use Rattle.protocol.specs.Protocol.{Question, Outcome, Reply, ask, ended, no_refusal}
 use Rattle.linesearch_trials.specs.declared.Line.{Line}
 use Rattle.linesearch_trials.specs.Trials.{one}
-use Rattle.linesearch_trials.specs.Start.{lineFromOf, optionsRefusalOf, countsRefusalOf, lineRefusalOf}
-use Rattle.linesearch.specs.Step.{asksGradient, asksDifference}
+use Rattle.linesearch_trials.specs.Start.{line_from_of, options_refusal_of, counts_refusal_of, line_refusal_of}
+use Rattle.linesearch.specs.Step.{asks_gradient, asks_difference}
 use Rattle.quasinewton.specs.Step as quasinewton
-use Rattle.neldermead.specs.Step.{startOf}
+use Rattle.neldermead.specs.Step.{start_of}
 use Rattle.optim_record.specs.declared.Record.{Record}
-use Rattle.optim_record.specs.Record.{blankOf, gradientJobOf}
-use Rattle.optim_reply.specs.Standing.{refusedOf, standingSimplexOf, standingSearchOf, standingDescentOf, standingDifferencesOf, standingOf}
-use Rattle.optim_first_record.specs.Starts.{begunRecordOf, pastLimitsOf, simplexRefusalOf, simplexRecordOf, searchPastLimitsOf, searchRefusalOf, searchRecordOf, gradientPastLimitsOf, orderedOf, noMemoryOf, gradientRefusalOf, gradientMarkOf, gradientRecordOf}
-use Rattle.optim_start.specs.Start.{differencesOf, simplexOf, searchOf, gradientOf, bfgsOf, lbfgsOf}
-use Rattle.optim_theory.specs.Replies.{refusesSimplex, refusesBfgs, refusesLbfgs, refusesSearch, refusesDifferences, StartReplies, Starts}
+use Rattle.optim_record.specs.Record.{blank_of, gradient_job_of}
+use Rattle.optim_reply.specs.Standing.{refused_of, standing_simplex_of, standing_search_of, standing_descent_of, standing_differences_of, standing_of}
+use Rattle.optim_first_record.specs.Starts.{begun_record_of, past_limits_of, simplex_refusal_of, simplex_record_of, search_past_limits_of, search_refusal_of, search_record_of, gradient_past_limits_of, ordered_of, no_memory_of, gradient_refusal_of, gradient_mark_of, gradient_record_of}
+use Rattle.optim_start.specs.Start.{differences_of, simplex_of, search_of, gradient_of, bfgs_of, lbfgs_of}
+use Rattle.optim_theory.specs.Replies.{refuses_simplex, refuses_bfgs, refuses_lbfgs, refuses_search, refuses_differences, StartReplies, Starts}
 use Rattle.protocol.proofs.Replies.{ask≢refused, ended≢refused}
 
 -- one of those refusals, or none
@@ -38,147 +38,147 @@ test true p q = p
 test false p q = q
 
 module _ (these : ℕ → ℕ → Bool) where
-  none-met : Meets these noRefusal
-  none-met = record { met = λ e. absurd (subst T e tt) }
+  none_met : Meets these no_refusal
+  none_met = record { met = λ e. absurd (subst T e tt) }
 
   either : (b : Bool) {y z : Reply × Record} → StartReplies these y → StartReplies these z → StartReplies these (cond b y z)
   either true h k = h
   either false h k = k
 
-  refuses : (k d : ℕ) → T (these k d) → StartReplies these (refusedOf blankOf k d)
-  refuses k d t = record { in-scope = t; no-record = λ j c e. refl }
+  refuses : (k d : ℕ) → T (these k d) → StartReplies these (refused_of blank_of k d)
+  refuses k d t = record { in_scope = t; no_record = λ j c e. refl }
 
   asks : (q : Question) (r : Record) → StartReplies these (ask q, r)
-  asks q r = record { in-scope = tt; no-record = λ k d e. absurd (ask≢refused e) }
+  asks q r = record { in_scope = tt; no_record = λ k d e. absurd (ask≢refused e) }
 
   ends : (o : Outcome) (r : Record) → StartReplies these (ended o, r)
-  ends o r = record { in-scope = tt; no-record = λ k d e. absurd (ended≢refused e) }
+  ends o r = record { in_scope = tt; no_record = λ k d e. absurd (ended≢refused e) }
 
   -- a refusal that is met, or what comes after it
-  decide : (why : Refusal) {y : Reply × Record} → Meets these why → StartReplies these y → StartReplies these (cond (not (eqb why.number 0)) (refusedOf blankOf why.number why.detail) y)
+  decide : (why : Refusal) {y : Reply × Record} → Meets these why → StartReplies these y → StartReplies these (cond (not (eqb why.number 0)) (refused_of blank_of why.number why.detail) y)
   decide why {y} m h = go (eqb why.number 0) refl
     where
-      go : (b : Bool) → eqb why.number 0 ≡ b → StartReplies these (cond (not b) (refusedOf blankOf why.number why.detail) y)
+      go : (b : Bool) → eqb why.number 0 ≡ b → StartReplies these (cond (not b) (refused_of blank_of why.number why.detail) y)
       go true e = h
       go false e = refuses why.number why.detail (m.met e)
 
 -- ---- simplex
 
-simplex-met : (count : ℕ) (o : SimplexOptions) (a : Allowances) → Meets refusesSimplex (simplexRefusalOf count o a)
-unfolding simplexRefusalOf
-simplex-met count o a =
-    test (pastLimitsOf count o a) (record { met = λ e. tt })
-    (test (not (toleranceOf o.xtol)) (record { met = λ e. tt })
-    (test (not (toleranceOf o.ftol)) (record { met = λ e. tt })
-    (test (not (positiveOf o.step)) (record { met = λ e. tt }) (test (eqb count 0) (record { met = λ e. tt }) (none-met refusesSimplex)))))
+simplex_met : (count : ℕ) (o : SimplexOptions) (a : Allowances) → Meets refuses_simplex (simplex_refusal_of count o a)
+unfolding simplex_refusal_of
+simplex_met count o a =
+    test (past_limits_of count o a) (record { met = λ e. tt })
+    (test (not (tolerance_of o.xtol)) (record { met = λ e. tt })
+    (test (not (tolerance_of o.ftol)) (record { met = λ e. tt })
+    (test (not (positive_of o.step)) (record { met = λ e. tt }) (test (eqb count 0) (record { met = λ e. tt }) (none_met refuses_simplex)))))
 
-simplex-stands : (p : List Float) (n : ℕ) (o : SimplexOptions) (a : Allowances) → StartReplies refusesSimplex (standingOf (simplexRecordOf p n o a))
-unfolding standingOf standingSimplexOf simplexRecordOf startOf
-simplex-stands p n o a = asks refusesSimplex _ _
+simplex_stands : (p : List Float) (n : ℕ) (o : SimplexOptions) (a : Allowances) → StartReplies refuses_simplex (standing_of (simplex_record_of p n o a))
+unfolding standing_of standing_simplex_of simplex_record_of start_of
+simplex_stands p n o a = asks refuses_simplex _ _
 
-simplex-opens : (x : List Float) (o : SimplexOptions) (a : Allowances) → StartReplies refusesSimplex (simplexOf x o a)
-unfolding simplexOf
-simplex-opens x o a =
+simplex_opens : (x : List Float) (o : SimplexOptions) (a : Allowances) → StartReplies refuses_simplex (simplex_of x o a)
+unfolding simplex_of
+simplex_opens x o a =
     let n = length x in
-    let p = fromSliceOf x n in
-    decide refusesSimplex (simplexRefusalOf n o a) (simplex-met n o a)
-    (either refusesSimplex (not (allFiniteOf p n)) (refuses refusesSimplex 12 1 tt) (simplex-stands p n o a))
+    let p = from_slice_of x n in
+    decide refuses_simplex (simplex_refusal_of n o a) (simplex_met n o a)
+    (either refuses_simplex (not (all_finite_of p n)) (refuses refuses_simplex 12 1 tt) (simplex_stands p n o a))
 
 -- ---- bfgs and lbfgs
 
-bfgs-met : (count : ℕ) (o : GradientOptions) (a : Allowances) → Meets refusesBfgs (gradientRefusalOf count o a false)
-unfolding gradientRefusalOf noMemoryOf
-bfgs-met count o a =
-    test (gradientPastLimitsOf count o a false) (record { met = λ e. tt })
-    (test (not (toleranceOf o.gradtol)) (record { met = λ e. tt })
-    (test (not (toleranceOf o.ftol)) (record { met = λ e. tt })
-    (test (not (toleranceOf o.xtol)) (record { met = λ e. tt })
-    (test (not (orderedOf o.wolfe)) (record { met = λ e. tt }) (test (eqb count 0) (record { met = λ e. tt }) (none-met refusesBfgs))))))
+bfgs_met : (count : ℕ) (o : GradientOptions) (a : Allowances) → Meets refuses_bfgs (gradient_refusal_of count o a false)
+unfolding gradient_refusal_of no_memory_of
+bfgs_met count o a =
+    test (gradient_past_limits_of count o a false) (record { met = λ e. tt })
+    (test (not (tolerance_of o.gradtol)) (record { met = λ e. tt })
+    (test (not (tolerance_of o.ftol)) (record { met = λ e. tt })
+    (test (not (tolerance_of o.xtol)) (record { met = λ e. tt })
+    (test (not (ordered_of o.wolfe)) (record { met = λ e. tt }) (test (eqb count 0) (record { met = λ e. tt }) (none_met refuses_bfgs))))))
 
-lbfgs-met : (count : ℕ) (o : GradientOptions) (a : Allowances) → Meets refusesLbfgs (gradientRefusalOf count o a true)
-unfolding gradientRefusalOf
-lbfgs-met count o a =
-    test (gradientPastLimitsOf count o a true) (record { met = λ e. tt })
-    (test (noMemoryOf o true) (record { met = λ e. tt })
-    (test (not (toleranceOf o.gradtol)) (record { met = λ e. tt })
-    (test (not (toleranceOf o.ftol)) (record { met = λ e. tt })
-    (test (not (toleranceOf o.xtol)) (record { met = λ e. tt })
-    (test (not (orderedOf o.wolfe)) (record { met = λ e. tt }) (test (eqb count 0) (record { met = λ e. tt }) (none-met refusesLbfgs)))))))
+lbfgs_met : (count : ℕ) (o : GradientOptions) (a : Allowances) → Meets refuses_lbfgs (gradient_refusal_of count o a true)
+unfolding gradient_refusal_of
+lbfgs_met count o a =
+    test (gradient_past_limits_of count o a true) (record { met = λ e. tt })
+    (test (no_memory_of o true) (record { met = λ e. tt })
+    (test (not (tolerance_of o.gradtol)) (record { met = λ e. tt })
+    (test (not (tolerance_of o.ftol)) (record { met = λ e. tt })
+    (test (not (tolerance_of o.xtol)) (record { met = λ e. tt })
+    (test (not (ordered_of o.wolfe)) (record { met = λ e. tt }) (test (eqb count 0) (record { met = λ e. tt }) (none_met refuses_lbfgs)))))))
 
-gradient-stands : (these : ℕ → ℕ → Bool) (p : List Float) (n : ℕ) (o : GradientOptions) (a : Allowances) (limited : Bool) → StartReplies these (standingOf (gradientRecordOf p n o a limited))
-unfolding standingOf standingDescentOf gradientRecordOf gradientMarkOf gradientJobOf quasinewton.startOf quasinewton.asksOf quasinewton.gradientDueOf
-gradient-stands these p n o a true = asks these _ _
-gradient-stands these p n o a false = asks these _ _
+gradient_stands : (these : ℕ → ℕ → Bool) (p : List Float) (n : ℕ) (o : GradientOptions) (a : Allowances) (limited : Bool) → StartReplies these (standing_of (gradient_record_of p n o a limited))
+unfolding standing_of standing_descent_of gradient_record_of gradient_mark_of gradient_job_of quasinewton.start_of quasinewton.asks_of quasinewton.gradient_due_of
+gradient_stands these p n o a true = asks these _ _
+gradient_stands these p n o a false = asks these _ _
 
-bfgs-opens : (x : List Float) (o : GradientOptions) (a : Allowances) → StartReplies refusesBfgs (bfgsOf x o a)
-unfolding bfgsOf gradientOf
-bfgs-opens x o a =
+bfgs_opens : (x : List Float) (o : GradientOptions) (a : Allowances) → StartReplies refuses_bfgs (bfgs_of x o a)
+unfolding bfgs_of gradient_of
+bfgs_opens x o a =
     let n = length x in
-    let p = fromSliceOf x n in
-    decide refusesBfgs (gradientRefusalOf n o a false) (bfgs-met n o a)
-    (either refusesBfgs (not (allFiniteOf p n)) (refuses refusesBfgs 12 1 tt) (gradient-stands refusesBfgs p n o a false))
+    let p = from_slice_of x n in
+    decide refuses_bfgs (gradient_refusal_of n o a false) (bfgs_met n o a)
+    (either refuses_bfgs (not (all_finite_of p n)) (refuses refuses_bfgs 12 1 tt) (gradient_stands refuses_bfgs p n o a false))
 
-lbfgs-opens : (x : List Float) (o : GradientOptions) (a : Allowances) → StartReplies refusesLbfgs (lbfgsOf x o a)
-unfolding lbfgsOf gradientOf
-lbfgs-opens x o a =
+lbfgs_opens : (x : List Float) (o : GradientOptions) (a : Allowances) → StartReplies refuses_lbfgs (lbfgs_of x o a)
+unfolding lbfgs_of gradient_of
+lbfgs_opens x o a =
     let n = length x in
-    let p = fromSliceOf x n in
-    decide refusesLbfgs (gradientRefusalOf n o a true) (lbfgs-met n o a)
-    (either refusesLbfgs (not (allFiniteOf p n)) (refuses refusesLbfgs 12 1 tt) (gradient-stands refusesLbfgs p n o a true))
+    let p = from_slice_of x n in
+    decide refuses_lbfgs (gradient_refusal_of n o a true) (lbfgs_met n o a)
+    (either refuses_lbfgs (not (all_finite_of p n)) (refuses refuses_lbfgs 12 1 tt) (gradient_stands refuses_lbfgs p n o a true))
 
 -- ---- search
 
-options-met : (o : WolfeOptions) → Meets refusesSearch (optionsRefusalOf o)
-unfolding optionsRefusalOf
-options-met o =
-    test (not (lt plusZero o.c1)) (record { met = λ e. tt })
+options_met : (o : WolfeOptions) → Meets refuses_search (options_refusal_of o)
+unfolding options_refusal_of
+options_met o =
+    test (not (lt plus_zero o.c1)) (record { met = λ e. tt })
     (test (not (lt o.c1 one)) (record { met = λ e. tt })
     (test (not (lt o.c1 o.c2)) (record { met = λ e. tt })
     (test (not (lt o.c2 one)) (record { met = λ e. tt })
-    (test (eqb o.evals 0) (record { met = λ e. tt }) (test (not (positiveOf o.stepmax)) (record { met = λ e. tt }) (none-met refusesSearch))))))
+    (test (eqb o.evals 0) (record { met = λ e. tt }) (test (not (positive_of o.stepmax)) (record { met = λ e. tt }) (none_met refuses_search))))))
 
-counts-met : (n dcount gcount : ℕ) → Meets refusesSearch (countsRefusalOf n dcount gcount)
-unfolding countsRefusalOf
-counts-met n dcount gcount =
+counts_met : (n dcount gcount : ℕ) → Meets refuses_search (counts_refusal_of n dcount gcount)
+unfolding counts_refusal_of
+counts_met n dcount gcount =
     test (eqb n 0) (record { met = λ e. tt })
-    (test (not (eqb dcount n)) (record { met = λ e. tt }) (test (not (eqb gcount n)) (record { met = λ e. tt }) (none-met refusesSearch)))
+    (test (not (eqb dcount n)) (record { met = λ e. tt }) (test (not (eqb gcount n)) (record { met = λ e. tt }) (none_met refuses_search)))
 
-line-met : (n : ℕ) (l : Line) (step : Float) → Meets refusesSearch (lineRefusalOf n l step)
-unfolding lineRefusalOf
-line-met n l step =
-    test (not (allFiniteOf l.x n)) (record { met = λ e. tt })
-    (test (not (allFiniteOf l.d n)) (record { met = λ e. tt })
-    (test (not (allFiniteOf l.g n)) (record { met = λ e. tt })
-    (test (not (finiteOf l.f)) (record { met = λ e. tt })
-    (test (not (positiveOf step)) (record { met = λ e. tt }) (test (le plusZero l.slope) (record { met = λ e. tt }) (none-met refusesSearch))))))
+line_met : (n : ℕ) (l : Line) (step : Float) → Meets refuses_search (line_refusal_of n l step)
+unfolding line_refusal_of
+line_met n l step =
+    test (not (all_finite_of l.x n)) (record { met = λ e. tt })
+    (test (not (all_finite_of l.d n)) (record { met = λ e. tt })
+    (test (not (all_finite_of l.g n)) (record { met = λ e. tt })
+    (test (not (finite_of l.f)) (record { met = λ e. tt })
+    (test (not (positive_of step)) (record { met = λ e. tt }) (test (le plus_zero l.slope) (record { met = λ e. tt }) (none_met refuses_search))))))
 
-start-met : (n dcount gcount : ℕ) (o : WolfeOptions) → Meets refusesSearch (searchRefusalOf n dcount gcount o)
-unfolding searchRefusalOf
-start-met n dcount gcount o =
-    test (searchPastLimitsOf n dcount gcount o) (record { met = λ e. tt }) (test (not (eqb (optionsRefusalOf o).number 0)) (options-met o) (counts-met n dcount gcount))
+start_met : (n dcount gcount : ℕ) (o : WolfeOptions) → Meets refuses_search (search_refusal_of n dcount gcount o)
+unfolding search_refusal_of
+start_met n dcount gcount o =
+    test (search_past_limits_of n dcount gcount o) (record { met = λ e. tt }) (test (not (eqb (options_refusal_of o).number 0)) (options_met o) (counts_met n dcount gcount))
 
-search-stands : (l : Line) (n : ℕ) (step : Float) (o : WolfeOptions) (gradients : Bool) → StartReplies refusesSearch (standingOf (searchRecordOf l n step o gradients))
-unfolding searchRecordOf standingOf standingSearchOf
-search-stands l n step o gradients =
-    let r = searchRecordOf l n step o gradients in
-    either refusesSearch (ltb asksDifference r.descent.search.phase) (ends refusesSearch _ _)
-    (either refusesSearch (eqb r.descent.search.phase asksGradient) (asks refusesSearch _ _) (asks refusesSearch _ _))
+search_stands : (l : Line) (n : ℕ) (step : Float) (o : WolfeOptions) (gradients : Bool) → StartReplies refuses_search (standing_of (search_record_of l n step o gradients))
+unfolding search_record_of standing_of standing_search_of
+search_stands l n step o gradients =
+    let r = search_record_of l n step o gradients in
+    either refuses_search (ltb asks_difference r.descent.search.phase) (ends refuses_search _ _)
+    (either refuses_search (eqb r.descent.search.phase asks_gradient) (asks refuses_search _ _) (asks refuses_search _ _))
 
-search-opens : (x d : List Float) (f0 : Float) (g : List Float) (step : Float) (o : WolfeOptions) (gradients : Bool) → StartReplies refusesSearch (searchOf x d f0 g step o gradients)
-unfolding searchOf
-search-opens x d f0 g step o gradients =
+search_opens : (x d : List Float) (f0 : Float) (g : List Float) (step : Float) (o : WolfeOptions) (gradients : Bool) → StartReplies refuses_search (search_of x d f0 g step o gradients)
+unfolding search_of
+search_opens x d f0 g step o gradients =
     let n = length x in
-    let l = lineFromOf (fromSliceOf x n) (fromSliceOf d n) f0 (fromSliceOf g n) n in
-    decide refusesSearch (searchRefusalOf n (length d) (length g) o) (start-met n (length d) (length g) o)
-    (decide refusesSearch (lineRefusalOf n l step) (line-met n l step) (search-stands l n step o gradients))
+    let l = line_from_of (from_slice_of x n) (from_slice_of d n) f0 (from_slice_of g n) n in
+    decide refuses_search (search_refusal_of n (length d) (length g) o) (start_met n (length d) (length g) o)
+    (decide refuses_search (line_refusal_of n l step) (line_met n l step) (search_stands l n step o gradients))
 
 -- ---- differences
 
-differences-opens : (x : List Float) → StartReplies refusesDifferences (differencesOf x)
-unfolding differencesOf begunRecordOf standingOf standingDifferencesOf gradientJobOf
-differences-opens x =
-    let r = begunRecordOf x in
-    either refusesDifferences (ltb 16 (length x)) (refuses refusesDifferences 2 0 tt) (either refusesDifferences (eqb r.diff.at r.n) (ends refusesDifferences _ _) (asks refusesDifferences _ _))
+differences_opens : (x : List Float) → StartReplies refuses_differences (differences_of x)
+unfolding differences_of begun_record_of standing_of standing_differences_of gradient_job_of
+differences_opens x =
+    let r = begun_record_of x in
+    either refuses_differences (ltb 16 (length x)) (refuses refuses_differences 2 0 tt) (either refuses_differences (eqb r.diff.at r.n) (ends refuses_differences _ _) (asks refuses_differences _ _))
 
 pub starts : Starts
-starts = record { simplex = simplex-opens; bfgs = bfgs-opens; lbfgs = lbfgs-opens; search = search-opens; differences = differences-opens }
+starts = record { simplex = simplex_opens; bfgs = bfgs_opens; lbfgs = lbfgs_opens; search = search_opens; differences = differences_opens }

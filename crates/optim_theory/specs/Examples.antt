@@ -30,20 +30,20 @@ half = 0x3FE0_0000_0000_0000
 abbrev pub one : ℕ
 one = 0x3FF0_0000_0000_0000
 
-abbrev pub oneQuarter : ℕ
-oneQuarter = 0x3FF4_0000_0000_0000
+abbrev pub one_quarter : ℕ
+one_quarter = 0x3FF4_0000_0000_0000
 
-abbrev pub oneHalf : ℕ
-oneHalf = 0x3FF8_0000_0000_0000
+abbrev pub one_half : ℕ
+one_half = 0x3FF8_0000_0000_0000
 
 abbrev pub two : ℕ
 two = 0x4000_0000_0000_0000
 
-abbrev pub aNaN : ℕ
-aNaN = 0x7FF8_0000_0000_0000
+abbrev pub a_na_n : ℕ
+a_na_n = 0x7FF8_0000_0000_0000
 
-abbrev pub minusInfinity : ℕ
-minusInfinity = 0xFFF0_0000_0000_0000
+abbrev pub minus_infinity : ℕ
+minus_infinity = 0xFFF0_0000_0000_0000
 
 -- ---- 01's sample, whose allowances are absent; k is the count that stands beside each
 
@@ -55,25 +55,25 @@ sample k =
       x0 = bits one ∷ [];
     }
 
-abbrev pub sampleAnswers : List Answer
-sampleAnswers = tells 1 Value two ∷ tells 2 Value one ∷ []
+abbrev pub sample_answers : List Answer
+sample_answers = tells 1 Value two ∷ tells 2 Value one ∷ []
 
-abbrev pub sampleResult : Result
-sampleResult = record { reason = SimplexTolerance; converged = true; iterations = 0; fevals = 2; gevals = 0; f = bits one; x = bits oneHalf ∷ [] }
+abbrev pub sample_result : Result
+sample_result = record { reason = SimplexTolerance; converged = true; iterations = 0; fevals = 2; gevals = 0; f = bits one; x = bits one_half ∷ [] }
 
-abbrev pub sampleReplies : List Reply
-sampleReplies = asks 1 Value one ∷ asks 2 Value oneHalf ∷ ended (fitted sampleResult) ∷ []
+abbrev pub sample_replies : List Reply
+sample_replies = asks 1 Value one ∷ asks 2 Value one_half ∷ ended (fitted sample_result) ∷ []
 
 -- ---- the same fit told a NaN at 1 and -infinity at 2, the reflection: each is read as +infinity, so that it contracts to 1.25
 
-abbrev pub nonFiniteAnswers : List Answer
-nonFiniteAnswers = tells 1 Value aNaN ∷ tells 2 Value one ∷ tells 3 Value minusInfinity ∷ tells 4 Value one ∷ []
+abbrev pub non_finite_answers : List Answer
+non_finite_answers = tells 1 Value a_na_n ∷ tells 2 Value one ∷ tells 3 Value minus_infinity ∷ tells 4 Value one ∷ []
 
-abbrev pub nonFiniteResult : Result
-nonFiniteResult = record { reason = SimplexTolerance; converged = true; iterations = 1; fevals = 4; gevals = 0; f = bits one; x = bits oneHalf ∷ [] }
+abbrev pub non_finite_result : Result
+non_finite_result = record { reason = SimplexTolerance; converged = true; iterations = 1; fevals = 4; gevals = 0; f = bits one; x = bits one_half ∷ [] }
 
-abbrev pub nonFiniteReplies : List Reply
-nonFiniteReplies = asks 1 Value one ∷ asks 2 Value oneHalf ∷ asks 3 Value two ∷ asks 4 Value oneQuarter ∷ ended (fitted nonFiniteResult) ∷ []
+abbrev pub non_finite_replies : List Reply
+non_finite_replies = asks 1 Value one ∷ asks 2 Value one_half ∷ asks 3 Value two ∷ asks 4 Value one_quarter ∷ ended (fitted non_finite_result) ∷ []
 
 -- ---- bfgs and lbfgs on x² from 1, with gradients: c1 1e-4, c2 0.9, step_max 1e10, max_evals 25, memory 1, and no tolerances
 
@@ -89,50 +89,50 @@ options =
     }
 
 -- with a for both allowances: absent, max_iter is 200 and max_fevals no limit
-abbrev gradientFit : Job → Allowance → Fit
-gradientFit j a = record { job = j; allowances = record { iter = a; fevals = a }; x0 = bits one ∷ [] }
+abbrev gradient_fit : Job → Allowance → Fit
+gradient_fit j a = record { job = j; allowances = record { iter = a; fevals = a }; x0 = bits one ∷ [] }
 
 abbrev pub dense : Allowance → Fit
-dense a = gradientFit (bfgs options) a
+dense a = gradient_fit (bfgs options) a
 
 abbrev pub limited : Fit
-limited = gradientFit (lbfgs options) (absent 0)
+limited = gradient_fit (lbfgs options) (absent 0)
 
-abbrev pub openingAnswers : List Answer
-openingAnswers = tells 1 Value one ∷ tells 2 Gradient two ∷ []
+abbrev pub opening_answers : List Answer
+opening_answers = tells 1 Value one ∷ tells 2 Gradient two ∷ []
 
-abbrev pub wholeAnswers : List Answer
-wholeAnswers = tells 1 Value one ∷ tells 2 Gradient two ∷ tells 3 Value zero ∷ tells 4 Gradient zero ∷ []
+abbrev pub whole_answers : List Answer
+whole_answers = tells 1 Value one ∷ tells 2 Gradient two ∷ tells 3 Value zero ∷ tells 4 Gradient zero ∷ []
 
-abbrev pub stoppedResult : Result
-stoppedResult = record { reason = MaxIterations; converged = false; iterations = 0; fevals = 1; gevals = 1; f = bits one; x = bits one ∷ [] }
+abbrev pub stopped_result : Result
+stopped_result = record { reason = MaxIterations; converged = false; iterations = 0; fevals = 1; gevals = 1; f = bits one; x = bits one ∷ [] }
 
-abbrev pub wholeResult : Result
-wholeResult = record { reason = GradientTolerance; converged = true; iterations = 1; fevals = 2; gevals = 2; f = bits zero; x = bits zero ∷ [] }
+abbrev pub whole_result : Result
+whole_result = record { reason = GradientTolerance; converged = true; iterations = 1; fevals = 2; gevals = 2; f = bits zero; x = bits zero ∷ [] }
 
-abbrev pub stoppedReplies : List Reply
-stoppedReplies = asks 1 Value one ∷ asks 2 Gradient one ∷ ended (fitted stoppedResult) ∷ []
+abbrev pub stopped_replies : List Reply
+stopped_replies = asks 1 Value one ∷ asks 2 Gradient one ∷ ended (fitted stopped_result) ∷ []
 
-abbrev pub wholeReplies : List Reply
-wholeReplies = asks 1 Value one ∷ asks 2 Gradient one ∷ asks 3 Value zero ∷ asks 4 Gradient zero ∷ ended (fitted wholeResult) ∷ []
+abbrev pub whole_replies : List Reply
+whole_replies = asks 1 Value one ∷ asks 2 Gradient one ∷ asks 3 Value zero ∷ asks 4 Gradient zero ∷ ended (fitted whole_result) ∷ []
 
 -- ---- what holds of them
 
--- computed on `simplexOf`, `bfgsOf`, `lbfgsOf` and `answerOf`
+-- computed on `simplex_of`, `bfgs_of`, `lbfgs_of` and `answer_of`
 pub record Computed : Type 0 where
-  pub simplex-run : (k : ℕ) → (run code (sample k) sampleAnswers).replies ≡ sampleReplies
-  pub non-finite-run : (run code (sample 0) nonFiniteAnswers).replies ≡ nonFiniteReplies
-  pub bfgs-run : (run code (dense (absent 0)) wholeAnswers).replies ≡ wholeReplies
-  pub lbfgs-run : (run code limited wholeAnswers).replies ≡ wholeReplies
-  pub stopped-run : (run code (dense (given 0)) openingAnswers).replies ≡ stoppedReplies
+  pub simplex_run : (k : ℕ) → (run code (sample k) sample_answers).replies ≡ sample_replies
+  pub non_finite_run : (run code (sample 0) non_finite_answers).replies ≡ non_finite_replies
+  pub bfgs_run : (run code (dense (absent 0)) whole_answers).replies ≡ whole_replies
+  pub lbfgs_run : (run code limited whole_answers).replies ≡ whole_replies
+  pub stopped_run : (run code (dense (given 0)) opening_answers).replies ≡ stopped_replies
 
 -- they meet the hypotheses of both parts, which so hold of them
 pub record NotVacuous : Type 0 where
-  pub simplex-reaches : (k : ℕ) → Reaches code (sample k) sampleAnswers sampleResult
-  pub non-finite-reaches : Reaches code (sample 0) nonFiniteAnswers nonFiniteResult
-  pub bfgs-reaches : Reaches code (dense (absent 0)) wholeAnswers wholeResult
-  pub lbfgs-reaches : Reaches code limited wholeAnswers wholeResult
-  pub raised : Pair code (dense (given 0)) (dense (absent 0)) openingAnswers wholeAnswers stoppedResult wholeResult
-  pub simplex-one : (k : ℕ) → OfOne (sample k) (run code (sample k) sampleAnswers).exchanges sampleResult
-  pub non-finite-one : OfOne (sample 0) (run code (sample 0) nonFiniteAnswers).exchanges nonFiniteResult
-  pub raised-two : OfTwo (run code (dense (given 0)) openingAnswers) stoppedResult (run code (dense (absent 0)) wholeAnswers) wholeResult
+  pub simplex_reaches : (k : ℕ) → Reaches code (sample k) sample_answers sample_result
+  pub non_finite_reaches : Reaches code (sample 0) non_finite_answers non_finite_result
+  pub bfgs_reaches : Reaches code (dense (absent 0)) whole_answers whole_result
+  pub lbfgs_reaches : Reaches code limited whole_answers whole_result
+  pub raised : Pair code (dense (given 0)) (dense (absent 0)) opening_answers whole_answers stopped_result whole_result
+  pub simplex_one : (k : ℕ) → OfOne (sample k) (run code (sample k) sample_answers).exchanges sample_result
+  pub non_finite_one : OfOne (sample 0) (run code (sample 0) non_finite_answers).exchanges non_finite_result
+  pub raised_two : OfTwo (run code (dense (given 0)) opening_answers) stopped_result (run code (dense (absent 0)) whole_answers) whole_result

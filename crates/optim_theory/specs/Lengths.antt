@@ -4,10 +4,10 @@ use mathlib.Core.List.{List, Memᴰ}
 use Rattle.protocol.specs.Protocol.{Question, Answer, Outcome, fitted, searched, differenced, Reply, ask, ended, refused, Fit}
 use Rattle.protocol.specs.Dialogue.{Dialogue, run, NotRefused, Started}
 use Rattle.optim_record.specs.declared.Record.{Record}
-use Rattle.optim_start.specs.Start.{differencesOf}
+use Rattle.optim_start.specs.Start.{differences_of}
 use Rattle.optim_theory.specs.Engine.{code}
-use Rattle.optim_theory.specs.Follows.{differencesRun}
-use Rattle.optim_theory.specs.Search.{SearchStart, searchCode, codeRun}
+use Rattle.optim_theory.specs.Follows.{differences_run}
+use Rattle.optim_theory.specs.Search.{SearchStart, search_code, code_run}
 
 -- a result's x, a search's x and gradient, and the gradient that differences give
 abbrev pub OutcomeOf : ℕ → Outcome → Type 0
@@ -27,5 +27,5 @@ pub record AllOf (n : ℕ) (d : Dialogue Record) : Type 0 where
 
 pub record Lengths : Type 0 where
   pub fits : (f : Fit) (l : List Answer) → Started code f → AllOf (length f.x0) (run code f l)
-  pub search : (s : SearchStart) (l : List Answer) → NotRefused (searchCode s).0 → AllOf (length s.x) (codeRun s l)
-  pub differences : (x : List Float) (l : List Answer) → NotRefused (differencesOf x).0 → AllOf (length x) (differencesRun x l)
+  pub search : (s : SearchStart) (l : List Answer) → NotRefused (search_code s).0 → AllOf (length s.x) (code_run s l)
+  pub differences : (x : List Float) (l : List Answer) → NotRefused (differences_of x).0 → AllOf (length x) (differences_run x l)

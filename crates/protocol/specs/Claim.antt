@@ -13,13 +13,13 @@ use Rattle.float.specs.Values.{Finite}
 use Rattle.protocol.specs.declared.Kind.TheVariants.{Value, Gradient}
 use Rattle.protocol.specs.declared.Termination.{Termination}
 use Rattle.protocol.specs.declared.Termination.TheVariants.{GradientTolerance, SimplexTolerance, StepTolerance, FunctionTolerance, MaxIterations, MaxFevals, LineSearchFailed, GradientFailed, ObjectiveResolution}
-use Rattle.protocol.specs.Protocol.{Question, Answer, Result, readOf, Job, simplex, bfgs, lbfgs, Fit, allowanceOf, Engine}
-use Rattle.protocol.specs.Dialogue.{F64s, GivenF64s, Exchange, Dialogue, run, Started, Brings, Told, answersOf}
+use Rattle.protocol.specs.Protocol.{Question, Answer, Result, read_of, Job, simplex, bfgs, lbfgs, Fit, allowance_of, Engine}
+use Rattle.protocol.specs.Dialogue.{F64s, GivenF64s, Exchange, Dialogue, run, Started, Brings, Told, answers_of}
 use Rattle.protocol.specs.Calls.{Numbered, OfCall}
 
 -- "larger and least go by f64's `<`": nothing told is less than f, non-finite read as infinity
 abbrev pub LeastTold : List Exchange → Float → Type 0
-LeastTold es f = (x : List Float) (v : Float) → Told es x v → NotAbove f (readOf v)
+LeastTold es f = (x : List Float) (v : Float) → Told es x v → NotAbove f (read_of v)
 
 abbrev pub IsSimplex : Job → Type 0
 IsSimplex (simplex o) = Unit {0}
@@ -38,33 +38,33 @@ limit k ⊑ unlimited = Unit {0}
 unlimited ⊑ limit n = ⊥
 unlimited ⊑ unlimited = Unit {0}
 
-abbrev pub orDefault : Option ℕ → Limit → Limit
-orDefault none d = d
-orDefault (some k) d = limit k
+abbrev pub or_default : Option ℕ → Limit → Limit
+or_default none d = d
+or_default (some k) d = limit k
 
 -- simplex: "absent, each is 200·n·(1+restarts)"; gradient fits: "max_iter (absent: 200·n), max_fevals (absent: none)"
-abbrev pub defaultIter : Job → ℕ → Limit
-defaultIter (simplex o) n = limit (200 * n * (1 + o.restarts))
-defaultIter (bfgs o) n = limit (200 * n)
-defaultIter (lbfgs o) n = limit (200 * n)
+abbrev pub default_iter : Job → ℕ → Limit
+default_iter (simplex o) n = limit (200 * n * (1 + o.restarts))
+default_iter (bfgs o) n = limit (200 * n)
+default_iter (lbfgs o) n = limit (200 * n)
 
-abbrev pub defaultFevals : Job → ℕ → Limit
-defaultFevals (simplex o) n = limit (200 * n * (1 + o.restarts))
-defaultFevals (bfgs o) n = unlimited
-defaultFevals (lbfgs o) n = unlimited
+abbrev pub default_fevals : Job → ℕ → Limit
+default_fevals (simplex o) n = limit (200 * n * (1 + o.restarts))
+default_fevals (bfgs o) n = unlimited
+default_fevals (lbfgs o) n = unlimited
 
-abbrev pub iterAllowance : Fit → Limit
-iterAllowance f = orDefault (allowanceOf f.allowances.iter) (defaultIter f.job (length f.x0))
+abbrev pub iter_allowance : Fit → Limit
+iter_allowance f = or_default (allowance_of f.allowances.iter) (default_iter f.job (length f.x0))
 
-abbrev pub fevalsAllowance : Fit → Limit
-fevalsAllowance f = orDefault (allowanceOf f.allowances.fevals) (defaultFevals f.job (length f.x0))
+abbrev pub fevals_allowance : Fit → Limit
+fevals_allowance f = or_default (allowance_of f.allowances.fevals) (default_fevals f.job (length f.x0))
 
 -- "Run again, a fit starts alike in all but max_iter and max_fevals", with neither lowered
 pub record RunsAgain (first second : Fit) : Type 0 where
   pub job : first.job ≡ second.job
   pub x0 : first.x0 ≡ second.x0
-  pub iter : iterAllowance first ⊑ iterAllowance second
-  pub fevals : fevalsAllowance first ⊑ fevalsAllowance second
+  pub iter : iter_allowance first ⊑ iter_allowance second
+  pub fevals : fevals_allowance first ⊑ fevals_allowance second
 
 -- "accepted answers of one kind to one point, in both lists taken together, carry equal words"
 abbrev pub ByPointAlone : List Exchange → Type 0
@@ -91,18 +91,18 @@ ForAllowance ObjectiveResolution = ⊥
 -- of one list of the fit f that brings the result r: its accepted answers are es
 pub record OfOne (f : Fit) (es : List Exchange) (r : Result) : Type 0 where
   pub told : Told es r.x r.f
-  pub finite-f : Finite r.f
+  pub finite_f : Finite r.f
   pub least : IsSimplex f.job → LeastTold es r.f
-  pub fevals : r.fevals ≡ answersOf Value es
-  pub gevals : r.gevals ≡ answersOf Gradient es
+  pub fevals : r.fevals ≡ answers_of Value es
+  pub gevals : r.gevals ≡ answers_of Gradient es
   -- an allowance that a result is put down to is used up
-  pub iter-used : r.reason ≡ MaxIterations → iterAllowance f ⊑ limit r.iterations
-  pub fevals-used : r.reason ≡ MaxFevals → fevalsAllowance f ⊑ limit r.fevals
+  pub iter_used : r.reason ≡ MaxIterations → iter_allowance f ⊑ limit r.iterations
+  pub fevals_used : r.reason ≡ MaxFevals → fevals_allowance f ⊑ limit r.fevals
 
 -- of two lists that bring the results r and s
 pub record OfTwo {Record : Type 0} (d : Dialogue Record) (r : Result) (e : Dialogue Record) (s : Result) : Type 0 where
   pub opens : OpensWith e.questions d.questions
-  pub no-larger : NotAbove s.f r.f
+  pub no_larger : NotAbove s.f r.f
   pub equal : (ForAllowance r.reason → ⊥) → r ≡ s
 
 module _ (E : Engine) where

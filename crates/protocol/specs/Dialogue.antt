@@ -41,16 +41,16 @@ exchange (ask q) a = record { question = q; words = a.words } ∷ []
 exchange (ended o) a = []
 exchange (refused k d) a = []
 
-abbrev pub questionIn : Reply → List Question
-questionIn (ask q) = q ∷ []
-questionIn (ended o) = []
-questionIn (refused k d) = []
+abbrev pub question_in : Reply → List Question
+question_in (ask q) = q ∷ []
+question_in (ended o) = []
+question_in (refused k d) = []
 
 -- What a list of answers has come to: the open question or the outcome that stands, the record that the last call returned, the questions put so far, the answers
 -- accepted so far, each with its question, and every reply so far. "A fit's questions are those in the replies to the start and to accepted answers".
 pub record Dialogue (Record : Type 0) : Type 0 where
   pub standing : Reply
-  pub recordNow : Record
+  pub record_now : Record
   pub questions : List Question
   pub exchanges : List Exchange
   pub replies : List Reply
@@ -58,23 +58,23 @@ pub record Dialogue (Record : Type 0) : Type 0 where
 -- "each answer in it, refused, repeated or after the end too, is given with the record that the call before returned, which nobody writes in between"
 module _ (E : Engine) where
   abbrev pub begin : Fit → Dialogue E.Record
-  begin f = record { standing = (E.start f).0; recordNow = (E.start f).1; questions = questionIn (E.start f).0; exchanges = []; replies = (E.start f).0 ∷ [] }
+  begin f = record { standing = (E.start f).0; record_now = (E.start f).1; questions = question_in (E.start f).0; exchanges = []; replies = (E.start f).0 ∷ [] }
 
   -- An accepted answer's reply stands from then on, and a question in it is one more question put.
   abbrev pub called : Dialogue E.Record → Answer → Bool → Reply × E.Record → Dialogue E.Record
-  called d a true n = record { standing = n.0; recordNow = n.1; questions = d.questions ++ questionIn n.0; exchanges = d.exchanges ++ exchange d.standing a; replies = d.replies ++ (n.0 ∷ []) }
-  called d a false n = record { standing = d.standing; recordNow = n.1; questions = d.questions; exchanges = d.exchanges; replies = d.replies ++ (n.0 ∷ []) }
+  called d a true n = record { standing = n.0; record_now = n.1; questions = d.questions ++ question_in n.0; exchanges = d.exchanges ++ exchange d.standing a; replies = d.replies ++ (n.0 ∷ []) }
+  called d a false n = record { standing = d.standing; record_now = n.1; questions = d.questions; exchanges = d.exchanges; replies = d.replies ++ (n.0 ∷ []) }
 
   abbrev pub give : Dialogue E.Record → Answer → Dialogue E.Record
-  give d a = called d a (accepted d.standing a) (E.answer d.recordNow a)
+  give d a = called d a (accepted d.standing a) (E.answer d.record_now a)
 
-  abbrev pub giveAll : Dialogue E.Record → List Answer → Dialogue E.Record
-  giveAll d [] = d
-  giveAll d (a ∷ l) = giveAll (give d a) l
+  abbrev pub give_all : Dialogue E.Record → List Answer → Dialogue E.Record
+  give_all d [] = d
+  give_all d (a ∷ l) = give_all (give d a) l
 
   -- a fit started, and every answer of a list given to it
   abbrev pub run : Fit → List Answer → Dialogue E.Record
-  run f l = giveAll (begin f) l
+  run f l = give_all (begin f) l
 
 -- "A list begins with a fit's start that is not refused"
 abbrev pub NotRefused : Reply → Type 0
@@ -94,12 +94,12 @@ abbrev pub Told : List Exchange → List Float → Float → Type 0
 Told es x v = (e : Exchange) × Memᴰ e es × (e.question.kind ≡ Value) × (e.question.point ≡ x) × (e.words ≡ v ∷ [])
 
 -- "fevals is the count of accepted V answers, gevals of accepted G answers"
-abbrev pub ofKind : Kind → Kind → ℕ
-ofKind Value Value = 1
-ofKind Value Gradient = 0
-ofKind Gradient Value = 0
-ofKind Gradient Gradient = 1
+abbrev pub of_kind : Kind → Kind → ℕ
+of_kind Value Value = 1
+of_kind Value Gradient = 0
+of_kind Gradient Value = 0
+of_kind Gradient Gradient = 1
 
-abbrev pub answersOf : Kind → List Exchange → ℕ
-answersOf k [] = 0
-answersOf k (e ∷ es) = ofKind k e.question.kind + answersOf k es
+abbrev pub answers_of : Kind → List Exchange → ℕ
+answers_of k [] = 0
+answers_of k (e ∷ es) = of_kind k e.question.kind + answers_of k es

@@ -8,11 +8,11 @@ use Rattle.protocol.specs.declared.Termination.TheVariants.{MaxIterations, MaxFe
 use Rattle.protocol.specs.declared.SimplexOptions.{SimplexOptions}
 use Rattle.protocol.specs.declared.GradientOptions.{GradientOptions}
 use Rattle.protocol.specs.Protocol.{letter, Answer, fitted, Reply, ask, ended, refused, Job, simplex, bfgs, lbfgs, Fit, Engine}
-use Rattle.protocol.specs.Dialogue.{wanted, ofKind}
+use Rattle.protocol.specs.Dialogue.{wanted, of_kind}
 use Rattle.protocol.specs.Ask.{Ask, finish, query}
-use Rattle.protocol.specs.PastLimits.{pastLimits}
-use Rattle.protocol.specs.Rounds.{Ending, atHead, stops, fails, Verdict, goOn, stop, restart, Rounds, FitLimits, reached, limitsOf, resultAt, questionAt}
-use Rattle.protocol.specs.Fits.{mapEnding, Positions, fits}
+use Rattle.protocol.specs.PastLimits.{past_limits}
+use Rattle.protocol.specs.Rounds.{Ending, at_head, stops, fails, Verdict, go_on, stop, restart, Rounds, FitLimits, reached, limits_of, result_at, question_at}
+use Rattle.protocol.specs.Fits.{map_ending, Positions, fits}
 
 -- where a step leads: to a place where a question stands open, or to the text's end
 pub data Turn (Place Position : Type 0) : Type 0 where
@@ -21,8 +21,8 @@ pub data Turn (Place Position : Type 0) : Type 0 where
 
 -- what a turn has still to do, by what a place has
 abbrev pub text : {Place Position : Type 0} → (Place → Ask (Ending Position)) → Turn Place Position → Ask (Ending Position)
-text toDo (still s) = toDo s
-text toDo (ends o) = finish o
+text to_do (still s) = to_do s
+text to_do (ends o) = finish o
 
 -- the question that stands open at a place, the step that its answer makes, and the first turns of opening, restart and round
 pub record Steps {Start : Type 0} (R : Rounds Start) : Type 1 where
@@ -36,11 +36,11 @@ pub record Steps {Start : Type 0} (R : Rounds Start) : Type 1 where
 
 -- a place asks what its text asks and steps to the rest of it, and the first turns are those of the fit's texts
 pub record StepsLaws {Start : Type 0} (R : Rounds Start) (S : Steps R) : Type 0 where
-  pub toDo : S.Place → Ask (Ending R.Position)
-  pub follows : (s : S.Place) → toDo s ≡ query (S.kind s) (S.point s) (λ w. text toDo (S.step s w))
-  pub opens : (j : Start) (x : List Float) → text toDo (S.opening j x) ≡ R.opening j x
-  pub restarts : (p : R.Position) (m : Ask (Ending R.Position)) → R.tests p ≡ restart m → text toDo (S.again p) ≡ m
-  pub rounds : (p : R.Position) → text toDo (S.round p) ≡ R.round p
+  pub to_do : S.Place → Ask (Ending R.Position)
+  pub follows : (s : S.Place) → to_do s ≡ query (S.kind s) (S.point s) (λ w. text to_do (S.step s w))
+  pub opens : (j : Start) (x : List Float) → text to_do (S.opening j x) ≡ R.opening j x
+  pub restarts : (p : R.Position) (m : Ask (Ending R.Position)) → R.tests p ≡ restart m → text to_do (S.again p) ≡ m
+  pub rounds : (p : R.Position) → text to_do (S.round p) ≡ R.round p
 
 -- what the record holds: a place, or an outcome
 pub data Held (Place : Type 0) : Type 0 where
@@ -63,22 +63,22 @@ module _ (R : Rounds Job) (S : Steps R) where
   Turns = Turn S.Place R.Position
 
   -- the head of a round, after v accepted values
-  abbrev pub allowedTurn : Bool → Bool → R.Position → Turns
-  allowedTurn true b p = ends (stops MaxIterations p)
-  allowedTurn false true p = ends (stops MaxFevals p)
-  allowedTurn false false p = S.round p
+  abbrev pub allowed_turn : Bool → Bool → R.Position → Turns
+  allowed_turn true b p = ends (stops MaxIterations p)
+  allowed_turn false true p = ends (stops MaxFevals p)
+  allowed_turn false false p = S.round p
 
-  abbrev pub headedTurn : FitLimits → ℕ → Verdict R.Position → R.Position → Turns
-  headedTurn l v goOn p = allowedTurn (reached (R.iterations p) l.iter) (reached v l.fevals) p
-  headedTurn l v (stop y) p = ends (stops y p)
-  headedTurn l v (restart m) p = S.again p
+  abbrev pub headed_turn : FitLimits → ℕ → Verdict R.Position → R.Position → Turns
+  headed_turn l v go_on p = allowed_turn (reached (R.iterations p) l.iter) (reached v l.fevals) p
+  headed_turn l v (stop y) p = ends (stops y p)
+  headed_turn l v (restart m) p = S.again p
 
   -- the turn goes on through a head
-  abbrev pub settleTurn : FitLimits → ℕ → Turns → Turns
-  settleTurn l v (still s) = still s
-  settleTurn l v (ends (atHead p)) = headedTurn l v (R.tests p) p
-  settleTurn l v (ends (stops y p)) = ends (stops y p)
-  settleTurn l v (ends (fails k d)) = ends (fails k d)
+  abbrev pub settle_turn : FitLimits → ℕ → Turns → Turns
+  settle_turn l v (still s) = still s
+  settle_turn l v (ends (at_head p)) = headed_turn l v (R.tests p) p
+  settle_turn l v (ends (stops y p)) = ends (stops y p)
+  settle_turn l v (ends (fails k d)) = ends (fails k d)
 
   -- the reply and the record, after n accepted answers, v values and g gradients
   abbrev pub placed : FitLimits → ℕ → ℕ → ℕ → Held S.Place → Placed S.Place
@@ -87,84 +87,84 @@ module _ (R : Rounds Job) (S : Steps R) where
   abbrev pub close : FitLimits → ℕ → ℕ → ℕ → Reply → Reply × Placed S.Place
   close l n v g y = (y, placed l n v g (closed y))
 
-  abbrev pub putTurn : FitLimits → ℕ → ℕ → ℕ → Turns → Reply × Placed S.Place
-  putTurn l n v g (still s) = (ask (questionAt R n (S.kind s) (S.point s)), placed l n v g (at s))
-  putTurn l n v g (ends (stops y p)) = close l n v g (ended (fitted (resultAt R y v g p)))
-  putTurn l n v g (ends (fails k d)) = close l n v g (refused k d)
+  abbrev pub put_turn : FitLimits → ℕ → ℕ → ℕ → Turns → Reply × Placed S.Place
+  put_turn l n v g (still s) = (ask (question_at R n (S.kind s) (S.point s)), placed l n v g (at s))
+  put_turn l n v g (ends (stops y p)) = close l n v g (ended (fitted (result_at R y v g p)))
+  put_turn l n v g (ends (fails k d)) = close l n v g (refused k d)
   -- never met: no opening, round or restart is at a head before it has asked
-  putTurn l n v g (ends (atHead p)) = close l n v g (refused 1 0)
+  put_turn l n v g (ends (at_head p)) = close l n v g (refused 1 0)
 
   -- the question or the outcome that stands
-  abbrev pub standingAt : ℕ → Held S.Place → Reply
-  standingAt n (at s) = ask (questionAt R n (S.kind s) (S.point s))
-  standingAt n (closed y) = y
+  abbrev pub standing_at : ℕ → Held S.Place → Reply
+  standing_at n (at s) = ask (question_at R n (S.kind s) (S.point s))
+  standing_at n (closed y) = y
 
   -- an answer that suits is counted, and makes its step
-  abbrev pub acceptAt : Placed S.Place → S.Place → Answer → Reply × Placed S.Place
-  acceptAt r s a =
-      let v = r.values + ofKind Value (S.kind s) in
-      putTurn r.limits (suc r.last) v (r.gradients + ofKind Gradient (S.kind s)) (settleTurn r.limits v (S.step s a.words))
+  abbrev pub accept_at : Placed S.Place → S.Place → Answer → Reply × Placed S.Place
+  accept_at r s a =
+      let v = r.values + of_kind Value (S.kind s) in
+      put_turn r.limits (suc r.last) v (r.gradients + of_kind Gradient (S.kind s)) (settle_turn r.limits v (S.step s a.words))
 
   -- not a repeat: 15, 16, 17, or accepted
-  abbrev pub freshAt : Placed S.Place → Held S.Place → Answer → Reply × Placed S.Place
-  freshAt r (closed y) a = (refused 15 0, r)
-  freshAt r (at s) a =
+  abbrev pub fresh_at : Placed S.Place → Held S.Place → Answer → Reply × Placed S.Place
+  fresh_at r (closed y) a = (refused 15 0, r)
+  fresh_at r (at s) a =
       cond (not (eqb a.number (suc r.last))) (refused 16 0, r)
-      (cond (not (eqb a.kind (letter (S.kind s)) && eqb (length a.words) (wanted (S.kind s) (S.point s)))) (refused 17 0, r) (acceptAt r s a))
+      (cond (not (eqb a.kind (letter (S.kind s)) && eqb (length a.words) (wanted (S.kind s) (S.point s)))) (refused 17 0, r) (accept_at r s a))
 
   -- a repeat carries the number last accepted; before the first acceptance no number is one
-  abbrev pub answerAt : Placed S.Place → Answer → Reply × Placed S.Place
-  answerAt r a = cond (not (eqb r.last 0) && eqb a.number r.last) (standingAt r.last r.held, r) (freshAt r r.held a)
+  abbrev pub answer_at : Placed S.Place → Answer → Reply × Placed S.Place
+  answer_at r a = cond (not (eqb r.last 0) && eqb a.number r.last) (standing_at r.last r.held, r) (fresh_at r r.held a)
 
   -- refusal 2 comes before all that the opening refuses
-  abbrev pub begunTurn : Fit → Turns
-  begunTurn f = cond (pastLimits f) (ends (fails 2 0)) (S.opening f.job f.x0)
+  abbrev pub begun_turn : Fit → Turns
+  begun_turn f = cond (past_limits f) (ends (fails 2 0)) (S.opening f.job f.x0)
 
-  abbrev pub startAt : Fit → Reply × Placed S.Place
-  startAt f = putTurn (limitsOf f) 0 0 0 (begunTurn f)
+  abbrev pub start_at : Fit → Reply × Placed S.Place
+  start_at f = put_turn (limits_of f) 0 0 0 (begun_turn f)
 
   -- the engine whose record holds a place
-  abbrev pub engineOfPlaces : Engine
-  engineOfPlaces = record { Record = Placed S.Place; start = startAt; answer = answerAt }
+  abbrev pub engine_of_places : Engine
+  engine_of_places = record { Record = Placed S.Place; start = start_at; answer = answer_at }
 
 -- ---- two such records as one: a fit is at a place of the one or of the other
 
 -- a turn with its place and its position mapped
-abbrev pub mapTurn : {S T P Q : Type 0} → (P → Q) → (S → T) → Turn S P → Turn T Q
-mapTurn f g (still s) = still (g s)
-mapTurn f g (ends o) = ends (mapEnding f o)
+abbrev pub map_turn : {S T P Q : Type 0} → (P → Q) → (S → T) → Turn S P → Turn T Q
+map_turn f g (still s) = still (g s)
+map_turn f g (ends o) = ends (map_ending f o)
 
 module _ (A : Rounds SimplexOptions) (B : Rounds (Bool × GradientOptions)) (SA : Steps A) (SB : Steps B) where
   -- a place of one of the two
   abbrev pub Places : Type 0
   Places = SA.Place ⊎ SB.Place
 
-  abbrev pub kindOf : Places → Kind
-  kindOf (inl s) = SA.kind s
-  kindOf (inr s) = SB.kind s
+  abbrev pub kind_of : Places → Kind
+  kind_of (inl s) = SA.kind s
+  kind_of (inr s) = SB.kind s
 
-  abbrev pub pointOf : Places → List Float
-  pointOf (inl s) = SA.point s
-  pointOf (inr s) = SB.point s
+  abbrev pub point_of : Places → List Float
+  point_of (inl s) = SA.point s
+  point_of (inr s) = SB.point s
 
-  abbrev pub stepOf : Places → List Float → Turn Places (Positions A B)
-  stepOf (inl s) w = mapTurn inl inl (SA.step s w)
-  stepOf (inr s) w = mapTurn inr inr (SB.step s w)
+  abbrev pub step_of : Places → List Float → Turn Places (Positions A B)
+  step_of (inl s) w = map_turn inl inl (SA.step s w)
+  step_of (inr s) w = map_turn inr inr (SB.step s w)
 
   -- the turns are those of the job's fit, or of the one that the place or the position is of
-  abbrev pub openingTurn : Job → List Float → Turn Places (Positions A B)
-  openingTurn (simplex o) x = mapTurn inl inl (SA.opening o x)
-  openingTurn (bfgs o) x = mapTurn inr inr (SB.opening (false, o) x)
-  openingTurn (lbfgs o) x = mapTurn inr inr (SB.opening (true, o) x)
+  abbrev pub opening_turn : Job → List Float → Turn Places (Positions A B)
+  opening_turn (simplex o) x = map_turn inl inl (SA.opening o x)
+  opening_turn (bfgs o) x = map_turn inr inr (SB.opening (false, o) x)
+  opening_turn (lbfgs o) x = map_turn inr inr (SB.opening (true, o) x)
 
-  abbrev pub againTurn : Positions A B → Turn Places (Positions A B)
-  againTurn (inl p) = mapTurn inl inl (SA.again p)
-  againTurn (inr p) = mapTurn inr inr (SB.again p)
+  abbrev pub again_turn : Positions A B → Turn Places (Positions A B)
+  again_turn (inl p) = map_turn inl inl (SA.again p)
+  again_turn (inr p) = map_turn inr inr (SB.again p)
 
-  abbrev pub roundTurn : Positions A B → Turn Places (Positions A B)
-  roundTurn (inl p) = mapTurn inl inl (SA.round p)
-  roundTurn (inr p) = mapTurn inr inr (SB.round p)
+  abbrev pub round_turn : Positions A B → Turn Places (Positions A B)
+  round_turn (inl p) = map_turn inl inl (SA.round p)
+  round_turn (inr p) = map_turn inr inr (SB.round p)
 
   -- the steps of the fit of any job
-  abbrev pub fitsSteps : Steps (fits A B)
-  fitsSteps = record { Place = Places; kind = kindOf; point = pointOf; step = stepOf; opening = openingTurn; again = againTurn; round = roundTurn }
+  abbrev pub fits_steps : Steps (fits A B)
+  fits_steps = record { Place = Places; kind = kind_of; point = point_of; step = step_of; opening = opening_turn; again = again_turn; round = round_turn }

@@ -3,7 +3,7 @@
 use Rattle.std.specs.Prelude.{ℕ, Bool, true, false, cond, List, Float}
 use Rattle.std.proofs.Math.Option.{Option, none, some}
 use Rattle.std.specs.Float.{inf}
-use Rattle.float.specs.Values.{finiteOf}
+use Rattle.float.specs.Values.{finite_of}
 use Rattle.vector.specs.Lists.{first}
 use Rattle.protocol.specs.declared.Kind.{Kind}
 use Rattle.protocol.specs.declared.Kind.TheVariants.{Value, Gradient}
@@ -18,20 +18,20 @@ use Rattle.protocol.specs.declared.Said.{Said}
 use Rattle.protocol.specs.declared.Said.TheVariants.{Ask, Fitted, Searched, Differenced, Refused}
 
 -- "A job is simplex, bfgs, lbfgs, search or differences": the marks of the jobs
-abbrev pub simplexMark : ℕ
-simplexMark = 1
+abbrev pub simplex_mark : ℕ
+simplex_mark = 1
 
-abbrev pub bfgsMark : ℕ
-bfgsMark = 2
+abbrev pub bfgs_mark : ℕ
+bfgs_mark = 2
 
-abbrev pub lbfgsMark : ℕ
-lbfgsMark = 3
+abbrev pub lbfgs_mark : ℕ
+lbfgs_mark = 3
 
-abbrev pub searchMark : ℕ
-searchMark = 4
+abbrev pub search_mark : ℕ
+search_mark = 4
 
-abbrev pub differencesMark : ℕ
-differencesMark = 5
+abbrev pub differences_mark : ℕ
+differences_mark = 5
 
 -- "a kind (V for a value, G for a gradient)", as the byte of its letter
 abbrev pub letter : Kind → ℕ
@@ -97,21 +97,21 @@ pub data Reply : Type 0 where
 abbrev pub refusal : ℕ → ℕ → Refusal
 refusal number detail = record { number = number; detail = detail }
 
-abbrev pub noRefusal : Refusal
-noRefusal = refusal 0 0
+abbrev pub no_refusal : Refusal
+no_refusal = refusal 0 0
 
 -- What the code says, with its point x and gradient g of which the first n coordinates count, as a reply.
-unfoldable pub replyOf : Said → ℕ → List Float → List Float → Reply
-replyOf (Ask k κ) n x g = ask (record { number = k; kind = κ; point = first n x })
-replyOf (Fitted s) n x g =
+unfoldable pub reply_of : Said → ℕ → List Float → List Float → Reply
+reply_of (Ask k κ) n x g = ask (record { number = k; kind = κ; point = first n x })
+reply_of (Fitted s) n x g =
     ended (fitted (record { reason = s.reason; converged = s.converged; iterations = s.iterations; fevals = s.fevals; gevals = s.gevals; f = s.f; x = first n x }))
-replyOf (Searched s) n x g = ended (searched (record { success = s.success; step = s.step; f = s.f; x = first n x; gradient = first n g; trials = s.trials }))
-replyOf Differenced n x g = ended (differenced (first n g))
-replyOf (Refused k d) n x g = refused k d
+reply_of (Searched s) n x g = ended (searched (record { success = s.success; step = s.step; f = s.f; x = first n x; gradient = first n g; trials = s.trials }))
+reply_of Differenced n x g = ended (differenced (first n g))
+reply_of (Refused k d) n x g = refused k d
 
 -- "In fits `Counted` reads any non-finite value as +infinity."
-unfoldable pub readOf : Float → Float
-readOf v = cond (finiteOf v) v (inf false)
+unfoldable pub read_of : Float → Float
+read_of v = cond (finite_of v) v (inf false)
 
 -- ---- fits
 
@@ -127,8 +127,8 @@ pub record Fit : Type 0 where
   pub x0 : List Float
 
 -- An allowance is a number or absent: the count beside `given` false, which may be any, is not looked at.
-abbrev pub allowanceOf : Allowance → Option ℕ
-allowanceOf a = cond a.given (some a.count) none
+abbrev pub allowance_of : Allowance → Option ℕ
+allowance_of a = cond a.given (some a.count) none
 
 -- An engine of fits: its two calls. Each returns a reply and a record; of a refused start the record means nothing.
 pub record Engine : Type 1 where

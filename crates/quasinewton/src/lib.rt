@@ -5,7 +5,7 @@
 
 ghost use Rattle.std.specs.Prelude.{◌≡◌, ◌≤◌};
 ghost use Rattle.quasinewton_model.specs.Step.{ModelInRange, FewPairs};
-ghost use Rattle.quasinewton.specs.Step.{storesPairOf, updatedOf, arrivedOf, onwardOf};
+ghost use Rattle.quasinewton.specs.Step.{stores_pair_of, updated_of, arrived_of, onward_of};
 
 use linesearch_moves::{FAILED, FOUND};
 pub use quasinewton_answer::{probe, told, told_gradient};
@@ -17,7 +17,7 @@ pub use quasinewton_record::{Descent, Fixed, asks, gradient_due, idle, start};
 // conditions, the gradient there is finite, and the curvature along the step is enough.
 pub fn stores(fixed: Fixed, q: Descent) -> bool
     requires { fixed.n ≤ 16 }
-    ensures { result ≡ storesPairOf fixed q }
+    ensures { result ≡ stores_pair_of fixed q }
 {
     if q.phase != SEARCHING {
         return false;
@@ -39,7 +39,7 @@ pub fn stores(fixed: Fixed, q: Descent) -> bool
 pub fn updated(fixed: Fixed, q: Descent, m: Model) -> Model
     requires n_bound { fixed.n ≤ 16 }
     requires model_in_range { ModelInRange m }
-    ensures { result ≡ updatedOf fixed q m }
+    ensures { result ≡ updated_of fixed q m }
 {
     let step = quasinewton_record::pair_step(q, fixed.n);
     let change = quasinewton_record::pair_change(q, fixed.n);
@@ -50,7 +50,7 @@ pub fn updated(fixed: Fixed, q: Descent, m: Model) -> Model
 // as it is.
 fn arrived(fixed: Fixed, q: Descent) -> Descent
     requires { fixed.n ≤ 16 }
-    ensures { result ≡ arrivedOf fixed q }
+    ensures { result ≡ arrived_of fixed q }
 {
     let s = q.search;
     let t = s.best;
@@ -72,7 +72,7 @@ fn arrived(fixed: Fixed, q: Descent) -> Descent
 pub fn settled(fixed: Fixed, q: Descent, m: Model, fevals: u64) -> Descent
     requires n_bound { fixed.n ≤ 16 }
     requires few_pairs { FewPairs m }
-    ensures { result ≡ onwardOf fixed q m fevals }
+    ensures { result ≡ onward_of fixed q m fevals }
 {
     let w = arrived(fixed, q);
     if w.phase == AT_HEAD {

@@ -3,7 +3,7 @@
 #![tactic(auto)]
 
 ghost use Rattle.std.specs.Prelude.{◌≡◌, ◌≤◌};
-ghost use Rattle.quasinewton_answer.specs.Questions.{probeOf, toldOf, toldGradientOf};
+ghost use Rattle.quasinewton_answer.specs.Questions.{probe_of, told_of, told_gradient_of};
 
 use quasinewton_record::{
     Descent, FIRST_DIFFERENCES, FIRST_GRADIENT, FIRST_VALUE, Fixed, SEARCHING,
@@ -12,7 +12,7 @@ use quasinewton_record::{
 // The point of the open question.
 pub fn probe(fixed: Fixed, q: Descent) -> [f64; 16]
     requires { fixed.n ≤ 16 }
-    ensures { result ≡ probeOf fixed q }
+    ensures { result ≡ probe_of fixed q }
 {
     let l = q.line;
     let s = q.search;
@@ -34,7 +34,7 @@ pub fn probe(fixed: Fixed, q: Descent) -> [f64; 16]
 // A value as it is read. A record that asks for none stays as it is.
 pub fn told(fixed: Fixed, q: Descent, v: f64) -> Descent
     requires { fixed.n ≤ 16 }
-    ensures { result ≡ toldOf fixed q v }
+    ensures { result ≡ told_of fixed q v }
 {
     let l = q.line;
     let s = q.search;
@@ -60,7 +60,7 @@ pub fn told(fixed: Fixed, q: Descent, v: f64) -> Descent
 // A gradient. A record that asks for none stays as it is.
 pub fn told_gradient(fixed: Fixed, q: Descent, g: [f64; 16]) -> Descent
     requires { fixed.n ≤ 16 }
-    ensures { result ≡ toldGradientOf fixed q g }
+    ensures { result ≡ told_gradient_of fixed q g }
 {
     let l = q.line;
     let s = q.search;

@@ -2,7 +2,7 @@
 #![tactic(auto)]
 
 ghost use Rattle.std.specs.Prelude.{◌≡◌, ◌≤◌, ◌<◌};
-ghost use Rattle.quasinewton_dense.specs.Step.{diagonalOf, updateRowOf, updateRowsOf, preparedOf, denseUpdateOf, denseDirectionOf};
+ghost use Rattle.quasinewton_dense.specs.Step.{diagonal_of, update_row_of, update_rows_of, prepared_of, dense_update_of, dense_direction_of};
 
 // The matrix, row by row with sixteen columns. `fresh`: no pair has been taken in.
 #[derive(Clone, Copy)]
@@ -14,7 +14,7 @@ pub struct Dense {
 // c times the identity of n rows.
 pub fn diagonal(c: f64, n: usize) -> [f64; 256]
     requires { n ≤ 16 }
-    ensures { result ≡ diagonalOf c n }
+    ensures { result ≡ diagonal_of c n }
 {
     let mut h = [0.0; 256];
     let mut i: usize = 0;
@@ -37,7 +37,7 @@ fn update_row(
 )
     requires i_bound { i < 16 }
     requires n_bound { n ≤ 16 }
-    ensures { h.new ≡ updateRowOf h.old i s hy rho coef n }
+    ensures { h.new ≡ update_row_of h.old i s hy rho coef n }
 {
     let si = s[i];
     let hyi = hy[i];
@@ -51,7 +51,7 @@ fn update_row(
 
 fn update_rows(h: &mut [f64; 256], s: [f64; 16], hy: [f64; 16], rho: f64, coef: f64, n: usize)
     requires { n ≤ 16 }
-    ensures { h.new ≡ updateRowsOf h.old s hy rho coef n n }
+    ensures { h.new ≡ update_rows_of h.old s hy rho coef n n }
 {
     let mut i: usize = 0;
     while i < n {
@@ -63,7 +63,7 @@ fn update_rows(h: &mut [f64; 256], s: [f64; 16], hy: [f64; 16], rho: f64, coef: 
 // H before an update: the first one finds it scaled, if sy and yy are positive (eq. 6.20).
 fn prepared(d: Dense, sy: f64, y: [f64; 16], n: usize) -> [f64; 256]
     requires { n ≤ 16 }
-    ensures { result ≡ preparedOf d sy y n }
+    ensures { result ≡ prepared_of d sy y n }
 {
     let h = d.h;
     if !d.fresh {
@@ -81,7 +81,7 @@ fn prepared(d: Dense, sy: f64, y: [f64; 16], n: usize) -> [f64; 256]
 
 pub fn dense_update(d: Dense, s: [f64; 16], y: [f64; 16], n: usize) -> Dense
     requires { n ≤ 16 }
-    ensures { result ≡ denseUpdateOf d s y n }
+    ensures { result ≡ dense_update_of d s y n }
 {
     let sy = vector::dot(s, y, n);
     let mut h = prepared(d, sy, y, n);
@@ -96,7 +96,7 @@ pub fn dense_update(d: Dense, s: [f64; 16], y: [f64; 16], n: usize) -> Dense
 // -H g
 pub fn dense_direction(d: Dense, g: [f64; 16], n: usize) -> [f64; 16]
     requires { n ≤ 16 }
-    ensures { result ≡ denseDirectionOf d g n }
+    ensures { result ≡ dense_direction_of d g n }
 {
     let h = d.h;
     let hg = vector::mat_vec(&h, g, n);

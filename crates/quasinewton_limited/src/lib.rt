@@ -2,7 +2,7 @@
 #![tactic(auto)]
 
 ghost use Rattle.std.specs.Prelude.{◌≡◌, ◌≤◌, ◌<◌};
-ghost use Rattle.quasinewton_limited.specs.Step.{downOf, allDownOf, upOf, allUpOf, limitedDirectionOf, shiftedOf, poppedOf, roomOf, gammaOf, limitedUpdateOf, noPairsOf};
+ghost use Rattle.quasinewton_limited.specs.Step.{down_of, all_down_of, up_of, all_up_of, limited_direction_of, shifted_of, popped_of, room_of, gamma_of, limited_update_of, no_pairs_of};
 
 // A step, the change of the gradient along it, and 1 / (s · y).
 #[derive(Clone, Copy)]
@@ -31,7 +31,7 @@ pub struct Sweep {
 fn down(p: Pair, w: Sweep, i: usize, n: usize) -> Sweep
     requires i_bound { i < 16 }
     requires n_bound { n ≤ 16 }
-    ensures { result ≡ downOf p w i n }
+    ensures { result ≡ down_of p w i n }
 {
     let s = p.s;
     let y = p.y;
@@ -47,7 +47,7 @@ fn down(p: Pair, w: Sweep, i: usize, n: usize) -> Sweep
 fn all_down(l: Limited, g: [f64; 16], n: usize) -> Sweep
     requires count_bound { l.count ≤ 16 }
     requires n_bound { n ≤ 16 }
-    ensures { result ≡ allDownOf l g n }
+    ensures { result ≡ all_down_of l g n }
 {
     let pairs = l.pairs;
     let none = [0.0; 16];
@@ -66,7 +66,7 @@ fn all_down(l: Limited, g: [f64; 16], n: usize) -> Sweep
 // Past a pair on the way up.
 fn up(p: Pair, q: [f64; 16], alpha: f64, n: usize) -> [f64; 16]
     requires { n ≤ 16 }
-    ensures { result ≡ upOf p q alpha n }
+    ensures { result ≡ up_of p q alpha n }
 {
     let s = p.s;
     let y = p.y;
@@ -78,7 +78,7 @@ fn up(p: Pair, q: [f64; 16], alpha: f64, n: usize) -> [f64; 16]
 fn all_up(l: Limited, r: [f64; 16], alphas: [f64; 16], n: usize) -> [f64; 16]
     requires count_bound { l.count ≤ 16 }
     requires n_bound { n ≤ 16 }
-    ensures { result ≡ allUpOf l.pairs r alphas n l.count }
+    ensures { result ≡ all_up_of l.pairs r alphas n l.count }
 {
     let pairs = l.pairs;
     let k = l.count;
@@ -97,7 +97,7 @@ fn all_up(l: Limited, r: [f64; 16], alphas: [f64; 16], n: usize) -> [f64; 16]
 pub fn limited_direction(l: Limited, g: [f64; 16], n: usize) -> [f64; 16]
     requires count_bound { l.count ≤ 16 }
     requires n_bound { n ≤ 16 }
-    ensures { result ≡ limitedDirectionOf l g n }
+    ensures { result ≡ limited_direction_of l g n }
 {
     let w = all_down(l, g, n);
     let q = w.q;
@@ -110,7 +110,7 @@ pub fn limited_direction(l: Limited, g: [f64; 16], n: usize) -> [f64; 16]
 // The k pairs after the first, each one place down.
 fn shifted(pairs: [Pair; 16], k: usize) -> [Pair; 16]
     requires { k < 16 }
-    ensures { result ≡ shiftedOf pairs k }
+    ensures { result ≡ shifted_of pairs k }
 {
     let mut w = pairs;
     let mut i: usize = 0;
@@ -125,7 +125,7 @@ fn shifted(pairs: [Pair; 16], k: usize) -> [Pair; 16]
 // The oldest pair drops out, if there is one.
 fn popped(l: Limited) -> Limited
     requires { l.count ≤ 16 }
-    ensures { result ≡ poppedOf l }
+    ensures { result ≡ popped_of l }
 {
     let k = l.count;
     if k == 0 {
@@ -143,7 +143,7 @@ fn popped(l: Limited) -> Limited
 // Where the memory is full the oldest pair makes room.
 fn room(l: Limited, memory: usize) -> Limited
     requires { l.count ≤ 16 }
-    ensures { result ≡ roomOf l memory }
+    ensures { result ≡ room_of l memory }
 {
     if l.count == memory {
         return popped(l);
@@ -153,7 +153,7 @@ fn room(l: Limited, memory: usize) -> Limited
 
 // The scaling of eq. 7.20.
 fn gamma(old: f64, sy: f64, yy: f64) -> f64
-    ensures { result ≡ gammaOf old sy yy }
+    ensures { result ≡ gamma_of old sy yy }
 {
     if yy > 0.0 {
         return sy / yy;
@@ -165,7 +165,7 @@ pub fn limited_update(l: Limited, memory: usize, s: [f64; 16], y: [f64; 16], n: 
     requires count_le_memory { l.count ≤ memory }
     requires memory_bound { memory ≤ 16 }
     requires n_bound { n ≤ 16 }
-    ensures { result ≡ limitedUpdateOf l memory s y n }
+    ensures { result ≡ limited_update_of l memory s y n }
 {
     let sy = vector::dot(s, y, n);
     let yy = vector::dot(y, y, n);
@@ -186,7 +186,7 @@ pub fn limited_update(l: Limited, memory: usize, s: [f64; 16], y: [f64; 16], n: 
 }
 
 pub fn no_pairs(gamma: f64) -> Limited
-    ensures { result ≡ noPairsOf gamma }
+    ensures { result ≡ no_pairs_of gamma }
 {
     let none = [0.0; 16];
     let p = Pair {

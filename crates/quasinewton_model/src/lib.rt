@@ -2,7 +2,7 @@
 #![tactic(auto)]
 
 ghost use Rattle.std.specs.Prelude.{◌≡◌, ◌≤◌};
-ghost use Rattle.quasinewton_model.specs.Step.{ModelInRange, FewPairs, blankOf, newModelOf, directionOf, updateOf};
+ghost use Rattle.quasinewton_model.specs.Step.{ModelInRange, FewPairs, blank_of, new_model_of, direction_of, update_of};
 
 pub use quasinewton_dense::Dense;
 pub use quasinewton_limited::{Limited, Pair};
@@ -18,7 +18,7 @@ pub struct Model {
 
 // All zero: the model of a record that has none.
 pub fn blank() -> Model
-    ensures { result ≡ blankOf }
+    ensures { result ≡ blank_of }
 {
     let zeros = [0.0; 256];
     let dense = Dense {
@@ -37,7 +37,7 @@ pub fn blank() -> Model
 // The first model of a fit: the identity, or no pairs.
 pub fn new_model(limited: bool, memory: usize, n: usize) -> Model
     requires { n ≤ 16 }
-    ensures { result ≡ newModelOf limited memory n }
+    ensures { result ≡ new_model_of limited memory n }
 {
     let none = blank();
     if limited {
@@ -65,7 +65,7 @@ pub fn new_model(limited: bool, memory: usize, n: usize) -> Model
 pub fn direction(m: Model, g: [f64; 16], n: usize) -> [f64; 16]
     requires few_pairs { FewPairs m }
     requires n_bound { n ≤ 16 }
-    ensures { result ≡ directionOf m g n }
+    ensures { result ≡ direction_of m g n }
 {
     let d = m.dense;
     let l = m.pairs;
@@ -79,7 +79,7 @@ pub fn direction(m: Model, g: [f64; 16], n: usize) -> [f64; 16]
 pub fn update(m: Model, s: [f64; 16], y: [f64; 16], n: usize) -> Model
     requires model_in_range { ModelInRange m }
     requires n_bound { n ≤ 16 }
-    ensures { result ≡ updateOf m s y n }
+    ensures { result ≡ update_of m s y n }
 {
     let d = m.dense;
     let l = m.pairs;

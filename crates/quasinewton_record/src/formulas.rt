@@ -1,6 +1,6 @@
 // The tests and the first step of a gradient fit, over points of sixteen coordinates.
 ghost use Rattle.std.specs.Prelude.{◌≡◌, ◌≤◌};
-ghost use Rattle.quasinewton_record.specs.Formulas.{storesOf, smallDecreaseOf, smallStepOf, initialStepOf, notDescendingOf};
+ghost use Rattle.quasinewton_record.specs.Formulas.{stores_of, small_decrease_of, small_step_of, initial_step_of, not_descending_of};
 
 // The least share of |s| |y| for which a pair is taken in.
 const CURVATURE: f64 = 1e-12;
@@ -10,14 +10,14 @@ const LEAST: f64 = 1e-30;
 // Whether the pair (s, y) is taken into the model.
 pub fn stores(s: [f64; 16], y: [f64; 16], n: usize) -> bool
     requires { n ≤ 16 }
-    ensures { result ≡ storesOf s y n }
+    ensures { result ≡ stores_of s y n }
 {
     vector::dot(s, y, n) > CURVATURE * vector::inf_norm(s, n) * vector::inf_norm(y, n)
 }
 
 // f_tol, which acts only above 0.
 pub fn small_decrease(ftol: f64, before: f64, now: f64) -> bool
-    ensures { result ≡ smallDecreaseOf ftol before now }
+    ensures { result ≡ small_decrease_of ftol before now }
 {
     if ftol > 0.0 {
         return before - now <= ftol * float::max(float::abs(now), 1.0);
@@ -28,7 +28,7 @@ pub fn small_decrease(ftol: f64, before: f64, now: f64) -> bool
 // x_tol, which acts only above 0.
 pub fn small_step(xtol: f64, before: [f64; 16], now: [f64; 16], n: usize) -> bool
     requires { n ≤ 16 }
-    ensures { result ≡ smallStepOf xtol before now n }
+    ensures { result ≡ small_step_of xtol before now n }
 {
     if xtol > 0.0 {
         let s = vector::difference(now, before, n);
@@ -40,7 +40,7 @@ pub fn small_step(xtol: f64, before: [f64; 16], now: [f64; 16], n: usize) -> boo
 // The step at which a search starts: 1, or in a fit's first search 1 / |d| where that is less.
 pub fn initial_step(first: bool, d: [f64; 16], n: usize) -> f64
     requires { n ≤ 16 }
-    ensures { result ≡ initialStepOf first d n }
+    ensures { result ≡ initial_step_of first d n }
 {
     if first {
         return float::min(1.0 / float::max(vector::inf_norm(d, n), LEAST), 1.0);
@@ -50,7 +50,7 @@ pub fn initial_step(first: bool, d: [f64; 16], n: usize) -> f64
 
 // Whether a slope is not finite or not below 0.
 pub fn not_descending(slope: f64) -> bool
-    ensures { result ≡ notDescendingOf slope }
+    ensures { result ≡ not_descending_of slope }
 {
     if slope >= 0.0 {
         return true;

@@ -5,8 +5,8 @@ mod formulas;
 mod outcomes;
 
 ghost use Rattle.std.specs.Prelude.{◌≡◌};
-ghost use Rattle.linesearch.specs.Step.{noTrial};
-ghost use Rattle.quasinewton_record.specs.Descents.{inPhase, refusedBy, searchFixed, asksOf, gradientDueOf, idleOf, startOf};
+ghost use Rattle.linesearch.specs.Step.{no_trial};
+ghost use Rattle.quasinewton_record.specs.Descents.{in_phase, refused_by, search_fixed, asks_of, gradient_due_of, idle_of, start_of};
 
 pub use formulas::{initial_step, not_descending, small_decrease, small_step, stores};
 use linesearch::{Evaluation, Line, Search, Trial};
@@ -71,7 +71,7 @@ pub struct Descent {
 }
 
 pub fn in_phase(q: Descent, phase: u64) -> Descent
-    ensures { result ≡ inPhase q phase }
+    ensures { result ≡ in_phase q phase }
 {
     let mut w = q;
     w.phase = phase;
@@ -80,7 +80,7 @@ pub fn in_phase(q: Descent, phase: u64) -> Descent
 
 // The fit ends with a refusal.
 pub fn refused_by(q: Descent, why: Refusal) -> Descent
-    ensures { result ≡ refusedBy q why }
+    ensures { result ≡ refused_by q why }
 {
     let mut w = q;
     w.phase = BY_REFUSAL;
@@ -91,7 +91,7 @@ pub fn refused_by(q: Descent, why: Refusal) -> Descent
 
 // What the search's start fixes.
 pub fn search_fixed(fixed: Fixed) -> linesearch::Fixed
-    ensures { result ≡ searchFixed fixed }
+    ensures { result ≡ search_fixed fixed }
 {
     let o = fixed.options;
     let options = o.wolfe;
@@ -104,7 +104,7 @@ pub fn search_fixed(fixed: Fixed) -> linesearch::Fixed
 
 // Whether the record waits for an answer.
 pub fn asks(q: Descent) -> bool
-    ensures { result ≡ asksOf q }
+    ensures { result ≡ asks_of q }
 {
     let s = q.search;
     if q.phase == SEARCHING {
@@ -115,7 +115,7 @@ pub fn asks(q: Descent) -> bool
 
 // Whether the open question is for a gradient.
 pub fn gradient_due(q: Descent) -> bool
-    ensures { result ≡ gradientDueOf q }
+    ensures { result ≡ gradient_due_of q }
 {
     let s = q.search;
     if q.phase == SEARCHING {
@@ -126,7 +126,7 @@ pub fn gradient_due(q: Descent) -> bool
 
 // A search before its first trial.
 fn no_trial() -> Search
-    ensures { result ≡ noTrial }
+    ensures { result ≡ no_trial }
 {
     let zero = [0.0; 16];
     let none = Trial {
@@ -157,7 +157,7 @@ fn no_trial() -> Search
 
 // Before any part is in use.
 pub fn idle() -> Descent
-    ensures { result ≡ idleOf }
+    ensures { result ≡ idle_of }
 {
     let zero = [0.0; 16];
     let line = Line {
@@ -183,7 +183,7 @@ pub fn idle() -> Descent
 
 // The value at x is asked for.
 pub fn start(x: [f64; 16]) -> Descent
-    ensures { result ≡ startOf x }
+    ensures { result ≡ start_of x }
 {
     let zero = [0.0; 16];
     let line = Line {

@@ -1,13 +1,13 @@
 // What follows a search: the record after its step, and the tests after it.
 ghost use Rattle.std.specs.Prelude.{◌≡◌, ◌≤◌};
-ghost use Rattle.quasinewton_record.specs.Outcomes.{lowerOf, missedOf, pairStepOf, pairChangeOf, steppedOf, testedOf};
+ghost use Rattle.quasinewton_record.specs.Outcomes.{lower_of, missed_of, pair_step_of, pair_change_of, stepped_of, tested_of};
 
 use crate::{AT_HEAD, BY_FUNCTION, BY_GRADIENT_FAILED, BY_SEARCH, BY_STEP, Descent, Fixed};
 use linesearch::Evaluation;
 
 // The fit ends; a lower value is kept.
 fn lower(q: Descent, why: u64, t: Evaluation) -> Descent
-    ensures { result ≡ lowerOf q why t }
+    ensures { result ≡ lower_of q why t }
 {
     let mut l = q.line;
     let x = t.x;
@@ -24,7 +24,7 @@ fn lower(q: Descent, why: u64, t: Evaluation) -> Descent
 
 // The search has failed, with t as its best trial, or the start at step 0.
 pub fn missed(q: Descent, t: Evaluation) -> Descent
-    ensures { result ≡ missedOf q t }
+    ensures { result ≡ missed_of q t }
 {
     if t.trial.step > 0.0 {
         return lower(q, BY_SEARCH, t);
@@ -35,7 +35,7 @@ pub fn missed(q: Descent, t: Evaluation) -> Descent
 // s of the pair: the step to the search's best trial.
 pub fn pair_step(q: Descent, n: usize) -> [f64; 16]
     requires { n ≤ 16 }
-    ensures { result ≡ pairStepOf q n }
+    ensures { result ≡ pair_step_of q n }
 {
     let l = q.line;
     let s = q.search;
@@ -48,7 +48,7 @@ pub fn pair_step(q: Descent, n: usize) -> [f64; 16]
 // y of the pair: the change of the gradient along that step.
 pub fn pair_change(q: Descent, n: usize) -> [f64; 16]
     requires { n ≤ 16 }
-    ensures { result ≡ pairChangeOf q n }
+    ensures { result ≡ pair_change_of q n }
 {
     let l = q.line;
     let s = q.search;
@@ -60,7 +60,7 @@ pub fn pair_change(q: Descent, n: usize) -> [f64; 16]
 
 // The record after the step to t.
 fn stepped(q: Descent, t: Evaluation) -> Descent
-    ensures { result ≡ steppedOf q t }
+    ensures { result ≡ stepped_of q t }
 {
     let x = t.x;
     let g = t.g;
@@ -79,7 +79,7 @@ fn stepped(q: Descent, t: Evaluation) -> Descent
 // is at the next head.
 pub fn tested(fixed: Fixed, q: Descent, t: Evaluation) -> Descent
     requires { fixed.n ≤ 16 }
-    ensures { result ≡ testedOf fixed q t }
+    ensures { result ≡ tested_of fixed q t }
 {
     let o = fixed.options;
     let l = q.line;

@@ -6,7 +6,7 @@ mod opening;
 
 ghost use Rattle.std.specs.Prelude.{◌≡◌, ◌≤◌};
 ghost use Rattle.quasinewton_model.specs.Step.{FewPairs};
-ghost use Rattle.quasinewton_round.specs.Rounds.{soughtOf, searchedOf, steepestOf, directedOf, headedOf};
+ghost use Rattle.quasinewton_round.specs.Rounds.{sought_of, searched_of, steepest_of, directed_of, headed_of};
 
 use linesearch::Line;
 pub use opening::{differing, graded, valued};
@@ -17,7 +17,7 @@ use quasinewton_record::{
 
 // A search begins along the line.
 fn sought(fixed: Fixed, q: Descent, l: Line, step: f64) -> Descent
-    ensures { result ≡ soughtOf fixed q l step }
+    ensures { result ≡ sought_of fixed q l step }
 {
     let s = linesearch::begun(quasinewton_record::search_fixed(fixed), l, step);
     let mut w = q;
@@ -30,7 +30,7 @@ fn sought(fixed: Fixed, q: Descent, l: Line, step: f64) -> Descent
 // All of `strong_wolfe`'s tests in its order, then the search along d.
 fn searched(fixed: Fixed, q: Descent, d: [f64; 16]) -> Descent
     requires { fixed.n ≤ 16 }
-    ensures { result ≡ searchedOf fixed q d }
+    ensures { result ≡ searched_of fixed q d }
 {
     let n = fixed.n;
     let o = fixed.options;
@@ -58,7 +58,7 @@ fn searched(fixed: Fixed, q: Descent, d: [f64; 16]) -> Descent
 // Along minus the gradient, in the place of a direction that does not descend.
 fn steepest(fixed: Fixed, q: Descent) -> Descent
     requires { fixed.n ≤ 16 }
-    ensures { result ≡ steepestOf fixed q }
+    ensures { result ≡ steepest_of fixed q }
 {
     let l = q.line;
     let g = l.g;
@@ -70,7 +70,7 @@ fn steepest(fixed: Fixed, q: Descent) -> Descent
 
 fn directed(fixed: Fixed, q: Descent, d: [f64; 16]) -> Descent
     requires { fixed.n ≤ 16 }
-    ensures { result ≡ directedOf fixed q d }
+    ensures { result ≡ directed_of fixed q d }
 {
     let l = q.line;
     let g = l.g;
@@ -87,7 +87,7 @@ fn directed(fixed: Fixed, q: Descent, d: [f64; 16]) -> Descent
 pub fn headed(fixed: Fixed, q: Descent, m: Model, fevals: u64) -> Descent
     requires n_bound { fixed.n ≤ 16 }
     requires few_pairs { FewPairs m }
-    ensures { result ≡ headedOf fixed q m fevals }
+    ensures { result ≡ headed_of fixed q m fevals }
 {
     let o = fixed.options;
     let l = q.line;

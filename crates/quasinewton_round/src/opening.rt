@@ -1,6 +1,6 @@
 // The opening of a fit: its first value, then its first gradient.
 ghost use Rattle.std.specs.Prelude.{◌≡◌, ◌≤◌};
-ghost use Rattle.quasinewton_round.specs.Opening.{gradedOf, differingOf, valuedOf};
+ghost use Rattle.quasinewton_round.specs.Opening.{graded_of, differing_of, valued_of};
 
 use objective::Differences;
 use protocol::Refusal;
@@ -9,7 +9,7 @@ use quasinewton_record::{AT_HEAD, Descent, FIRST_DIFFERENCES, FIRST_GRADIENT, Fi
 // The first gradient is g.
 pub fn graded(fixed: Fixed, q: Descent, g: [f64; 16]) -> Descent
     requires { fixed.n ≤ 16 }
-    ensures { result ≡ gradedOf fixed q g }
+    ensures { result ≡ graded_of fixed q g }
 {
     let mut l = q.line;
     l.g = g;
@@ -31,7 +31,7 @@ pub fn graded(fixed: Fixed, q: Descent, g: [f64; 16]) -> Descent
 // The differences have a question, or are done.
 pub fn differing(fixed: Fixed, q: Descent, e: Differences) -> Descent
     requires { fixed.n ≤ 16 }
-    ensures { result ≡ differingOf fixed q e }
+    ensures { result ≡ differing_of fixed q e }
 {
     let g = e.g;
     if e.at < fixed.n {
@@ -46,7 +46,7 @@ pub fn differing(fixed: Fixed, q: Descent, e: Differences) -> Descent
 // The first value is v.
 pub fn valued(fixed: Fixed, q: Descent, v: f64) -> Descent
     requires { fixed.n ≤ 16 }
-    ensures { result ≡ valuedOf fixed q v }
+    ensures { result ≡ valued_of fixed q v }
 {
     let mut l = q.line;
     let x = l.x;

@@ -10,48 +10,48 @@ use mathlib.Core.List.{List}
 use lib.Dec.{eqb}
 use lib.ListN.{length}
 use lib.Ieee.{Float, neg, lt}
-use Rattle.float.specs.Binary64.{plusZero}
-use Rattle.float.specs.Values.{finiteOf}
-use Rattle.float.proofs.Tests.{by-cond}
-use Rattle.vector.specs.Lists.{dot, allFinite, negation}
+use Rattle.float.specs.Binary64.{plus_zero}
+use Rattle.float.specs.Values.{finite_of}
+use Rattle.float.proofs.Tests.{by_cond}
+use Rattle.vector.specs.Lists.{dot, all_finite, negation}
 use Rattle.protocol.specs.declared.Kind.{Kind}
 use Rattle.protocol.specs.declared.Kind.TheVariants.{Value, Gradient}
 use Rattle.protocol.specs.declared.SimplexOptions.{SimplexOptions}
 use Rattle.protocol.specs.declared.GradientOptions.{GradientOptions}
 use Rattle.protocol.specs.declared.Termination.{Termination}
 use Rattle.protocol.specs.declared.Termination.TheVariants.{LineSearchFailed, GradientFailed}
-use Rattle.protocol.specs.Protocol.{readOf, Job, Fit}
-use Rattle.protocol.specs.Dialogue.{ofKind, run}
+use Rattle.protocol.specs.Protocol.{read_of, Job, Fit}
+use Rattle.protocol.specs.Dialogue.{of_kind, run}
 use Rattle.protocol.specs.Claim.{Limit, limit, ◌⊑◌}
-use Rattle.protocol.specs.Ask.{Ask, finish, askValue, ◌>>=◌}
-use Rattle.protocol.specs.Rounds.{Ending, atHead, stops, fails, Rounds, FitLimits, reached, limitsOf, engine}
-use Rattle.protocol.specs.Bounds.{Costs, Keeps, ofBoth, BoundLaws, QuestionsAtMost}
+use Rattle.protocol.specs.Ask.{Ask, finish, ask_value, ◌>>=◌}
+use Rattle.protocol.specs.Rounds.{Ending, at_head, stops, fails, Rounds, FitLimits, reached, limits_of, engine}
+use Rattle.protocol.specs.Bounds.{Costs, Keeps, of_both, BoundLaws, QuestionsAtMost}
 use Rattle.protocol.specs.Fits.{fits}
-use Rattle.protocol.proofs.Bounds.{costs-more, costs-bind, cond-costs, keeps-by-cost, all-questions, questions-at-most, none-used, one-left}
-use Rattle.protocol.proofs.FitsBounds.{bfgs-bounds, lbfgs-bounds}
-use Rattle.objective.specs.Algorithm.{evalGradient}
+use Rattle.protocol.proofs.Bounds.{costs_more, costs_bind, cond_costs, keeps_by_cost, all_questions, questions_at_most, none_used, one_left}
+use Rattle.protocol.proofs.FitsBounds.{bfgs_bounds, lbfgs_bounds}
+use Rattle.objective.specs.Algorithm.{eval_gradient}
 use Rattle.quasinewton_model_theory.specs.Algorithm.{direction}
 use Rattle.linesearch_trials.specs.declared.Evaluation.{Evaluation}
 use Rattle.linesearch_trials.specs.declared.Line.{Line}
-use Rattle.linesearch_theory.specs.Algorithm.{Searched, refuses, gives, search, wolfeRefusal, lineFrom, strongWolfe}
-use Rattle.linesearch_theory.specs.Counts.{perGradient, perTrial}
+use Rattle.linesearch_theory.specs.Algorithm.{Searched, refuses, gives, search, wolfe_refusal, line_from, strong_wolfe}
+use Rattle.linesearch_theory.specs.Counts.{per_gradient, per_trial}
 use Rattle.linesearch_theory.proofs.Counts.{counts as search-counts}
-use Rattle.quasinewton_theory.specs.Algorithm.{GradientPosition, stepped, smallDecrease, smallStep, stopsLower, succeeded, concluded, initialStep, searched, notDescending, iterated, round, withGradient, withValue, opened, opening, begunWith, quasiNewton}
-use Rattle.quasinewton_theory.specs.Counts.{withGradients, withoutGradients, GradientBounds, GradientJob, GradientCounts}
-use Rattle.quasinewton_theory.proofs.Laws.{opening-case, no-restart}
+use Rattle.quasinewton_theory.specs.Algorithm.{GradientPosition, stepped, small_decrease, small_step, stops_lower, succeeded, concluded, initial_step, searched, not_descending, iterated, round, with_gradient, with_value, opened, opening, begun_with, quasi_newton}
+use Rattle.quasinewton_theory.specs.Counts.{with_gradients, without_gradients, GradientBounds, GradientJob, GradientCounts}
+use Rattle.quasinewton_theory.proofs.Laws.{opening_case, no_restart}
 
 -- ---- what the texts ask
 
 module _ (κ : Kind) (n : ℕ) where
   -- the head that a text ends at: of at most n coordinates, with the options o and so many iterations
   abbrev End : GradientOptions → ℕ → Ending GradientPosition → Type 0
-  End o i (atHead p) = (length p.x ≤ n) × (p.options ≡ o) × (p.iterations ≡ i)
+  End o i (at_head p) = (length p.x ≤ n) × (p.options ≡ o) × (p.iterations ≡ i)
   End o i (stops y p) = Unit {0}
   End o i (fails k d) = Unit {0}
 
   -- what a trial asks
   abbrev each : GradientOptions → ℕ
-  each o = perTrial κ o.gradients n
+  each o = per_trial κ o.gradients n
 
   module _ (p : GradientPosition) where
     abbrev Q : Ending GradientPosition → Type 0
@@ -62,104 +62,104 @@ module _ (κ : Kind) (n : ℕ) where
     Given (refuses w) = Unit {0}
     Given (gives r) = length r.at.x ≤ n
 
-    stops-end : (why : Termination) (t : Evaluation) (b : Bool) → Q (stopsLower why p t b)
-    stops-end why t true = tt
-    stops-end why t false = tt
+    stops_end : (why : Termination) (t : Evaluation) (b : Bool) → Q (stops_lower why p t b)
+    stops_end why t true = tt
+    stops_end why t false = tt
 
-    succeeded-end : (t : Evaluation) → length t.x ≤ n → Q (succeeded p t)
+    succeeded_end : (t : Evaluation) → length t.x ≤ n → Q (succeeded p t)
     unfolding stepped
-    succeeded-end t h =
-        by-cond Q (not (allFinite t.g)) _ _ (λ i. stops-end GradientFailed t (lt t.trial.value p.f))
-        (λ i. by-cond Q (smallDecrease p.options.ftol p.f t.trial.value) _ _ (λ j. tt)
-        (λ j. by-cond Q (smallStep p.options.xtol p.x t.x) _ _ (λ k. tt) (λ k. (h, refl, refl))))
+    succeeded_end t h =
+        by_cond Q (not (all_finite t.g)) _ _ (λ i. stops_end GradientFailed t (lt t.trial.value p.f))
+        (λ i. by_cond Q (small_decrease p.options.ftol p.f t.trial.value) _ _ (λ j. tt)
+        (λ j. by_cond Q (small_step p.options.xtol p.x t.x) _ _ (λ k. tt) (λ k. (h, refl, refl))))
 
-    concluded-end : (s : Searched) → Given s → Q (concluded p s)
-    concluded-end (refuses w) h = tt
-    concluded-end (gives r) h =
-        by-cond Q r.success _ _ (λ i. succeeded-end r.at h) (λ i. stops-end LineSearchFailed r.at (lt plusZero r.at.trial.step && lt r.at.trial.value p.f))
+    concluded_end : (s : Searched) → Given s → Q (concluded p s)
+    concluded_end (refuses w) h = tt
+    concluded_end (gives r) h =
+        by_cond Q r.success _ _ (λ i. succeeded_end r.at h) (λ i. stops_end LineSearchFailed r.at (lt plus_zero r.at.trial.step && lt r.at.trial.value p.f))
 
     -- E trials
     abbrev most : ℕ
     most = p.options.wolfe.evals * each p.options
 
     module _ (short : length p.x ≤ n) where
-      wolfe-costs : (d : List Float) (step : Float) → Costs κ most (strongWolfe readOf p.options.gradients p.options.wolfe p.x d p.f p.g step) Given
-      unfolding strongWolfe
-      wolfe-costs d step =
-          let l : Line = lineFrom p.x d p.f p.g in
-          let m = search readOf p.options.gradients p.options.wolfe l step in
-          cond-costs κ most (eqb (wolfeRefusal p.options.wolfe p.x d p.f p.g step).number 0) (m >>= λ r. finish (gives r)) _ Given
-          (costs-more κ (most + 0) most (m >>= λ r. finish (gives r)) Given (omega arith)
-          (costs-bind κ most 0 m (λ r. finish (gives r)) (λ r. length r.at.x ≤ n) Given
-          (search-counts.search-costs κ readOf p.options.gradients p.options.wolfe l step n short) (λ r h. h)))
+      wolfe_costs : (d : List Float) (step : Float) → Costs κ most (strong_wolfe read_of p.options.gradients p.options.wolfe p.x d p.f p.g step) Given
+      unfolding strong_wolfe
+      wolfe_costs d step =
+          let l : Line = line_from p.x d p.f p.g in
+          let m = search read_of p.options.gradients p.options.wolfe l step in
+          cond_costs κ most (eqb (wolfe_refusal p.options.wolfe p.x d p.f p.g step).number 0) (m >>= λ r. finish (gives r)) _ Given
+          (costs_more κ (most + 0) most (m >>= λ r. finish (gives r)) Given (omega arith)
+          (costs_bind κ most 0 m (λ r. finish (gives r)) (λ r. length r.at.x ≤ n) Given
+          (search-counts.search_costs κ read_of p.options.gradients p.options.wolfe l step n short) (λ r h. h)))
           tt
 
-      searched-costs : (d : List Float) → Costs κ most (searched p d) Q
-      searched-costs d =
-          let step = initialStep p.first d in
-          let m = strongWolfe readOf p.options.gradients p.options.wolfe p.x d p.f p.g step in
-          costs-more κ (most + 0) most (m >>= λ r. finish (concluded p r)) Q (omega arith)
-          (costs-bind κ most 0 m (λ r. finish (concluded p r)) Given Q (wolfe-costs d step) concluded-end)
+      searched_costs : (d : List Float) → Costs κ most (searched p d) Q
+      searched_costs d =
+          let step = initial_step p.first d in
+          let m = strong_wolfe read_of p.options.gradients p.options.wolfe p.x d p.f p.g step in
+          costs_more κ (most + 0) most (m >>= λ r. finish (concluded p r)) Q (omega arith)
+          (costs_bind κ most 0 m (λ r. finish (concluded p r)) Given Q (wolfe_costs d step) concluded_end)
 
-  round-costs : (p : GradientPosition) → length p.x ≤ n → Costs κ (p.options.wolfe.evals * each p.options) (round p) (End p.options (suc p.iterations))
-  round-costs p h =
+  round_costs : (p : GradientPosition) → length p.x ≤ n → Costs κ (p.options.wolfe.evals * each p.options) (round p) (End p.options (suc p.iterations))
+  round_costs p h =
       let d = direction p.hess p.g in
       let q = iterated p in
       let b = most q in
-      cond-costs κ b (notDescending (dot p.g d) || not (allFinite d)) _ (searched q d) (Q q)
-      (cond-costs κ b (notDescending (neg (dot p.g p.g))) (finish (stops LineSearchFailed q)) (searched q (negation p.g)) (Q q) tt (searched-costs q h (negation p.g)))
-      (searched-costs q h d)
+      cond_costs κ b (not_descending (dot p.g d) || not (all_finite d)) _ (searched q d) (Q q)
+      (cond_costs κ b (not_descending (neg (dot p.g p.g))) (finish (stops LineSearchFailed q)) (searched q (negation p.g)) (Q q) tt (searched_costs q h (negation p.g)))
+      (searched_costs q h d)
 
-  opened-costs : (limits : Bool) (o : GradientOptions) (x : List Float) → length x ≤ n → Costs κ (each o) (opened limits o x) (End o 0)
-  opened-costs limits o x h =
-      costs-bind κ (ofKind κ Value) per (askValue readOf x) (withValue limits o x) (λ v. Unit {0}) (End o 0) (0, omega arith, λ w. tt)
-      (λ v u. cond-costs κ per (not (finiteOf v)) (finish (fails 18 0)) (graded v) (End o 0) tt
-      (costs-more κ (per + 0) per (graded v) (End o 0) (omega arith)
-      (costs-bind κ per 0 m (λ g. finish (withGradient limits o x v g)) (λ g. Unit {0}) (End o 0) (search-counts.gradient-costs κ readOf o.gradients x n h)
-      (λ g t. by-cond (End o 0) (not (allFinite g)) _ _ (λ i. tt) (λ i. (h, refl, refl))))))
+  opened_costs : (limits : Bool) (o : GradientOptions) (x : List Float) → length x ≤ n → Costs κ (each o) (opened limits o x) (End o 0)
+  opened_costs limits o x h =
+      costs_bind κ (of_kind κ Value) per (ask_value read_of x) (with_value limits o x) (λ v. Unit {0}) (End o 0) (0, omega arith, λ w. tt)
+      (λ v u. cond_costs κ per (not (finite_of v)) (finish (fails 18 0)) (graded v) (End o 0) tt
+      (costs_more κ (per + 0) per (graded v) (End o 0) (omega arith)
+      (costs_bind κ per 0 m (λ g. finish (with_gradient limits o x v g)) (λ g. Unit {0}) (End o 0) (search-counts.gradient_costs κ read_of o.gradients x n h)
+      (λ g t. by_cond (End o 0) (not (all_finite g)) _ _ (λ i. tt) (λ i. (h, refl, refl))))))
     where
       per : ℕ
-      per = perGradient κ o.gradients n
+      per = per_gradient κ o.gradients n
 
       m : Ask (List Float)
-      m = evalGradient readOf o.gradients x
+      m = eval_gradient read_of o.gradients x
 
       graded : Float → Ask (Ending GradientPosition)
-      graded v = m >>= λ g. finish (withGradient limits o x v g)
+      graded v = m >>= λ g. finish (with_gradient limits o x v g)
 
 module _ (κ : Kind) (limits : Bool) (o : GradientOptions) (x : List Float) (l : FitLimits) (bound : ℕ)
-    (in-bound : (i : ℕ) → limit i ⊑ l.iter → perTrial κ o.gradients (length x) + i * (o.wolfe.evals * perTrial κ o.gradients (length x)) ≤ bound) where
+    (in_bound : (i : ℕ) → limit i ⊑ l.iter → per_trial κ o.gradients (length x) + i * (o.wolfe.evals * per_trial κ o.gradients (length x)) ≤ bound) where
   abbrev n : ℕ
   n = length x
 
   abbrev trial : ℕ
-  trial = perTrial κ o.gradients n
+  trial = per_trial κ o.gradients n
 
   -- what the count may come to after i iterations
   abbrev cap : ℕ → ℕ
   cap i = trial + i * (o.wolfe.evals * trial)
 
   abbrev Head : ℕ → GradientPosition → Type 0
-  Head k p = (length p.x ≤ n) × (p.options ≡ begunWith limits o) × (limit p.iterations ⊑ l.iter) × (k ≤ cap p.iterations)
+  Head k p = (length p.x ≤ n) × (p.options ≡ begun_with limits o) × (limit p.iterations ⊑ l.iter) × (k ≤ cap p.iterations)
 
-  keeps : (k b i : ℕ) (m : Ask (Ending GradientPosition)) → Costs κ b m (End κ n (begunWith limits o) i) → limit i ⊑ l.iter → k + b ≤ cap i → Keeps κ bound Head k m
+  keeps : (k b i : ℕ) (m : Ask (Ending GradientPosition)) → Costs κ b m (End κ n (begun_with limits o) i) → limit i ⊑ l.iter → k + b ≤ cap i → Keeps κ bound Head k m
   keeps k b i m c few room =
-      keeps-by-cost κ bound Head b k m (End κ n (begunWith limits o) i) c (le_trans room (in-bound i few))
+      keeps_by_cost κ bound Head b k m (End κ n (begun_with limits o) i) c (le_trans room (in_bound i few))
       (λ j p j≤ e. (e.0, e.1, subst (λ (z : ℕ). limit z ⊑ l.iter) (sym e.2) few, subst (λ (z : ℕ). j ≤ cap z) (sym e.2) (le_trans j≤ room)))
 
-  opens : Keeps κ bound Head 0 (opening limits (begunWith limits o) x)
+  opens : Keeps κ bound Head 0 (opening limits (begun_with limits o) x)
   opens =
-      opening-case (Keeps κ bound Head 0) limits (begunWith limits o) x (λ k d. tt)
-      (λ a. keeps 0 trial 0 (opened limits (begunWith limits o) x) (opened-costs κ n limits (begunWith limits o) x (le_refl n)) (none-used l.iter) (omega arith))
+      opening_case (Keeps κ bound Head 0) limits (begun_with limits o) x (λ k d. tt)
+      (λ a. keeps 0 trial 0 (opened limits (begun_with limits o) x) (opened_costs κ n limits (begun_with limits o) x (le_refl n)) (none_used l.iter) (omega arith))
 
-  rounds : (v g : ℕ) (p : GradientPosition) → Head (ofBoth κ v g) p → reached p.iterations l.iter ≡ false → Keeps κ bound Head (ofBoth κ v g) (round p)
+  rounds : (v g : ℕ) (p : GradientPosition) → Head (of_both κ v g) p → reached p.iterations l.iter ≡ false → Keeps κ bound Head (of_both κ v g) (round p)
   rounds v g p h i =
-      keeps (ofBoth κ v g) (o.wolfe.evals * trial) (suc p.iterations) (round p)
-      (subst (λ (z : GradientOptions). Costs κ (z.wolfe.evals * perTrial κ z.gradients n) (round p) (End κ n z (suc p.iterations))) h.1 (round-costs κ n p h.0))
-      (one-left p.iterations l.iter i) (omega (arith, h.3, suc-mul p.iterations (o.wolfe.evals * trial)))
+      keeps (of_both κ v g) (o.wolfe.evals * trial) (suc p.iterations) (round p)
+      (subst (λ (z : GradientOptions). Costs κ (z.wolfe.evals * per_trial κ z.gradients n) (round p) (End κ n z (suc p.iterations))) h.1 (round_costs κ n p h.0))
+      (one_left p.iterations l.iter i) (omega (arith, h.3, suc-mul p.iterations (o.wolfe.evals * trial)))
 
-  capped : BoundLaws quasiNewton κ bound l (limits, o) x
-  capped = record { Head = Head; opening-keeps = opens; restart-keeps = λ k p m h e. absurd (no-restart p m e); round-keeps = λ v g p h i j. rounds v g p h i }
+  capped : BoundLaws quasi_newton κ bound l (limits, o) x
+  capped = record { Head = Head; opening_keeps = opens; restart_keeps = λ k p m h e. absurd (no_restart p m e); round_keeps = λ v g p h i j. rounds v g p h i }
 
 -- ---- the two bounds
 
@@ -172,55 +172,55 @@ module _ (limits : Bool) (o : GradientOptions) (x : List Float) (l : FitLimits) 
   abbrev E : ℕ
   E = o.wolfe.evals
 
-  bounded : (κ : Kind) (t I : ℕ) → perTrial κ o.gradients (length x) ≡ t → l.iter ≡ limit I → BoundLaws quasiNewton κ (t * (1 + I * E)) l (limits, o) x
+  bounded : (κ : Kind) (t I : ℕ) → per_trial κ o.gradients (length x) ≡ t → l.iter ≡ limit I → BoundLaws quasi_newton κ (t * (1 + I * E)) l (limits, o) x
   bounded κ t I e i =
       capped κ limits o x l (t * (1 + I * E))
       (λ j few.
       let within : j ≤ I = subst (λ (z : Limit). limit j ⊑ z) i few in
       subst (λ (z : ℕ). z + j * (E * z) ≤ t * (1 + I * E)) (sym e) (omega (arith, times t I E, mul-le-mul_right (E * t) within)))
 
-  one-each : (κ : Kind) → perTrial κ true (length x) ≡ 1
-  one-each Value = refl
-  one-each Gradient = refl
+  one_each : (κ : Kind) → per_trial κ true (length x) ≡ 1
+  one_each Value = refl
+  one_each Gradient = refl
 
-  with-gradients : (κ : Kind) (I : ℕ) → o.gradients ≡ true → l.iter ≡ limit I → BoundLaws quasiNewton κ (withGradients I o) l (limits, o) x
-  with-gradients κ I e i =
-      subst (λ (b : ℕ). BoundLaws quasiNewton κ b l (limits, o) x) (omega arith) (bounded κ 1 I (ap (λ (b : Bool). perTrial κ b (length x)) e ∙ one-each κ) i)
+  with_gradients_lem : (κ : Kind) (I : ℕ) → o.gradients ≡ true → l.iter ≡ limit I → BoundLaws quasi_newton κ (with_gradients I o) l (limits, o) x
+  with_gradients_lem κ I e i =
+      subst (λ (b : ℕ). BoundLaws quasi_newton κ b l (limits, o) x) (omega arith) (bounded κ 1 I (ap (λ (b : Bool). per_trial κ b (length x)) e ∙ one_each κ) i)
 
-  without-gradients : (I : ℕ) → o.gradients ≡ false → l.iter ≡ limit I → BoundLaws quasiNewton Value (withoutGradients I o x) l (limits, o) x
-  without-gradients I e i = bounded Value (1 + 2 * length x) I (ap (λ (b : Bool). perTrial Value b (length x)) e) i
+  without_gradients_lem : (I : ℕ) → o.gradients ≡ false → l.iter ≡ limit I → BoundLaws quasi_newton Value (without_gradients I o x) l (limits, o) x
+  without_gradients_lem I e i = bounded Value (1 + 2 * length x) I (ap (λ (b : Bool). per_trial Value b (length x)) e) i
 
-  no-gradients : o.gradients ≡ false → BoundLaws quasiNewton Gradient 0 l (limits, o) x
-  no-gradients e =
+  no_gradients : o.gradients ≡ false → BoundLaws quasi_newton Gradient 0 l (limits, o) x
+  no_gradients e =
       capped Gradient limits o x l 0
-      (λ j few. subst (λ (b : Bool). perTrial Gradient b (length x) + j * (E * perTrial Gradient b (length x)) ≤ 0) (sym e)
+      (λ j few. subst (λ (b : Bool). per_trial Gradient b (length x) + j * (E * per_trial Gradient b (length x)) ≤ 0) (sym e)
       (omega (arith, ap (λ (k : ℕ). j * k) (mul-zero E) ∙ mul-zero j)))
 
 pub bounds : GradientBounds
-bounds = record { with-gradients = λ κ limits o x l. with-gradients limits o x l κ; without-gradients = without-gradients; no-gradients = no-gradients }
+bounds = record { with_gradients_lem = λ κ limits o x l. with_gradients_lem limits o x l κ; without_gradients_lem = without_gradients_lem; no_gradients = no_gradients }
 
 -- ---- along every list of answers
 
 module _ (A : Rounds SimplexOptions) where
-  questions : (κ : Kind) (bound : ℕ) (f : Fit) (o : GradientOptions) → GradientJob f.job o → ((limits : Bool) → BoundLaws quasiNewton κ bound (limitsOf f) (limits, o) f.x0)
-      → QuestionsAtMost (fits A quasiNewton) κ bound f
+  questions : (κ : Kind) (bound : ℕ) (f : Fit) (o : GradientOptions) → GradientJob f.job o → ((limits : Bool) → BoundLaws quasi_newton κ bound (limits_of f) (limits, o) f.x0)
+      → QuestionsAtMost (fits A quasi_newton) κ bound f
   questions κ bound f o (inl e) N =
-      questions-at-most (fits A quasiNewton) κ bound f
-      (subst (λ (j : Job). BoundLaws (fits A quasiNewton) κ bound (limitsOf f) j f.x0) (sym e) (bfgs-bounds A quasiNewton κ bound (limitsOf f) f.x0 o (N false)))
+      questions_at_most (fits A quasi_newton) κ bound f
+      (subst (λ (j : Job). BoundLaws (fits A quasi_newton) κ bound (limits_of f) j f.x0) (sym e) (bfgs_bounds A quasi_newton κ bound (limits_of f) f.x0 o (N false)))
   questions κ bound f o (inr e) N =
-      questions-at-most (fits A quasiNewton) κ bound f
-      (subst (λ (j : Job). BoundLaws (fits A quasiNewton) κ bound (limitsOf f) j f.x0) (sym e) (lbfgs-bounds A quasiNewton κ bound (limitsOf f) f.x0 o (N true)))
+      questions_at_most (fits A quasi_newton) κ bound f
+      (subst (λ (j : Job). BoundLaws (fits A quasi_newton) κ bound (limits_of f) j f.x0) (sym e) (lbfgs_bounds A quasi_newton κ bound (limits_of f) f.x0 o (N true)))
 
   pub counts : GradientCounts A
   counts =
       record {
-        with-gradients = λ κ f o I j e i. questions κ (withGradients I o) f o j (λ limits. with-gradients limits o f.x0 (limitsOf f) κ I e i);
-        without-gradients = λ f o I j e i l.
+        with_gradients_lem = λ κ f o I j e i. questions κ (with_gradients I o) f o j (λ limits. with_gradients_lem limits o f.x0 (limits_of f) κ I e i);
+        without_gradients_lem = λ f o I j e i l.
             omega (
               arith,
-              all-questions (run (engine (fits A quasiNewton)) f l).questions,
-              questions Value (withoutGradients I o f.x0) f o j (λ limits. without-gradients limits o f.x0 (limitsOf f) I e i) l,
-              questions Gradient 0 f o j (λ limits. no-gradients limits o f.x0 (limitsOf f) e) l,
+              all_questions (run (engine (fits A quasi_newton)) f l).questions,
+              questions Value (without_gradients I o f.x0) f o j (λ limits. without_gradients_lem limits o f.x0 (limits_of f) I e i) l,
+              questions Gradient 0 f o j (λ limits. no_gradients limits o f.x0 (limits_of f) e) l,
             );
-        no-gradients = λ f o j e. questions Gradient 0 f o j (λ limits. no-gradients limits o f.x0 (limitsOf f) e);
+        no_gradients = λ f o j e. questions Gradient 0 f o j (λ limits. no_gradients limits o f.x0 (limits_of f) e);
       }

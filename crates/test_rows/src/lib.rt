@@ -6,7 +6,7 @@ ghost use Rattle.std.specs.Prelude.{◌≡◌, ◌≤◌, length};
 ghost use Rattle.std.specs.Float.{binary64};
 ghost use Rattle.std.specs.Float.Ieee.{of_bits, to_bits};
 ghost use Rattle.lines_buffer.specs.Texts.{filled};
-ghost use Rattle.test_rows.specs.Rows.{digitOf, noneOf, countedOf, reportText};
+ghost use Rattle.test_rows.specs.Rows.{digit_of, none_of, counted_of, report_text};
 
 use lines_buffer::{put_byte, put_decimal, put_text};
 
@@ -20,7 +20,7 @@ pub struct Tally {
 
 // A hexadecimal digit's number, or 16 for another byte.
 pub fn digit(b: u8) -> u64
-    ensures { result ≡ digitOf b }
+    ensures { result ≡ digit_of b }
 {
     if b < b'0' {
         return 16;
@@ -60,7 +60,7 @@ pub fn bits_of(x: f64) -> u64
 
 // Before the first row.
 pub fn none() -> Tally
-    ensures { result ≡ noneOf }
+    ensures { result ≡ none_of }
 {
     Tally {
         rows: 0,
@@ -71,7 +71,7 @@ pub fn none() -> Tally
 
 // One row more. A count stops at the largest u64.
 pub fn counted(t: Tally, same: bool) -> Tally
-    ensures { result ≡ countedOf t same }
+    ensures { result ≡ counted_of t same }
 {
     if t.rows == u64::MAX {
         return t;
@@ -103,7 +103,7 @@ pub fn counted(t: Tally, same: bool) -> Tally
 
 // The line of a replay's end, put at the start of a lent buffer, and how many bytes it has.
 pub fn put_report(out: &mut [u8; 512], t: Tally) -> usize
-    ensures { (result ≤ length out.new) × (result ≡ length (reportText t)) × (out.new ≡ filled out.old (reportText t)) }
+    ensures { (result ≤ length out.new) × (result ≡ length (report_text t)) × (out.new ≡ filled out.old (report_text t)) }
 {
     let a = put_decimal(out, 0, t.rows);
     let b = put_text(out, a, b" rows, ");

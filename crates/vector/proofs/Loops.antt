@@ -8,7 +8,7 @@ use native.Mathlib.Omega.{arith}
 use lib.ListN.{length, set, replicate, length-append}
 use lib.Seq.{set_at}
 use lib.Ieee.{Float}
-use Rattle.float.specs.Binary64.{plusZero}
+use Rattle.float.specs.Binary64.{plus_zero}
 use Rattle.vector.specs.Loops.{fold, upto, point}
 
 -- The invariant of a loop that counts i up to n, at most N, and has made s, which is F i
@@ -34,20 +34,20 @@ stays f z b i e h zero = rw add-zero e
 stays f z b i e h (suc d) = rw add-suc (ap (λ x. f x (i + d)) (stays f z b i e h d) ∙ h (i + d))
 
 -- a turn that leaves the loop with b, which no later turn would change
-pub left-with : {A : Type 0} {N : ℕ} {f : A → ℕ → A} {z : A} {n : ℕ} {s b : A} {i : ℕ} → Made N (fold f z) n s i → i < n → b ≡ f s i → ((k : ℕ) → f b k ≡ b) → b ≡ fold f z n
-left-with {f = f} {z = z} {n = n} {b = b} {i = i} m h e k =
+pub left_with : {A : Type 0} {N : ℕ} {f : A → ℕ → A} {z : A} {n : ℕ} {s b : A} {i : ℕ} → Made N (fold f z) n s i → i < n → b ≡ f s i → ((k : ℕ) → f b k ≡ b) → b ≡ fold f z n
+left_with {f = f} {z = z} {n = n} {b = b} {i = i} m h e k =
     sym (subst (λ j. fold f z j ≡ b) (add-sub_of_le h) (stays f z b (suc i) (ap (λ x. f x i) (sym m.made) ∙ sym e) k (n - suc i)))
 
-pub length-upto : {A : Type 0} (g : ℕ → A) (n : ℕ) → length (upto g n) ≡ n
-length-upto g zero = refl
-length-upto g (suc n) = length-append (upto g n) (g n ∷ []) ∙ ap (λ (k : ℕ). k + 1) (length-upto g n) ∙ add-one n
+pub length_upto : {A : Type 0} (g : ℕ → A) (n : ℕ) → length (upto g n) ≡ n
+length_upto g zero = refl
+length_upto g (suc n) = length-append (upto g n) (g n ∷ []) ∙ ap (λ (k : ℕ). k + 1) (length_upto g n) ∙ add-one n
 
-point-more : (g : ℕ → Float) (n : ℕ) → n < 16 → set (point g n) n (g n) ≡ point g (suc n)
-point-more g n h =
+point_more : (g : ℕ → Float) (n : ℕ) → n < 16 → set (point g n) n (g n) ≡ point g (suc n)
+point_more g n h =
     let left : 16 - n ≡ suc (16 - suc n) = omega arith in
-    ap (λ (k : ℕ). set (upto g n ++ replicate k plusZero) n (g n)) left
-    ∙ set_at (upto g n) plusZero (replicate (16 - suc n) plusZero) (g n) n (length-upto g n)
-    ∙ sym (append_assoc (upto g n) (g n ∷ []) (replicate (16 - suc n) plusZero))
+    ap (λ (k : ℕ). set (upto g n ++ replicate k plus_zero) n (g n)) left
+    ∙ set_at (upto g n) plus_zero (replicate (16 - suc n) plus_zero) (g n) n (length_upto g n)
+    ∙ sym (append_assoc (upto g n) (g n ∷ []) (replicate (16 - suc n) plus_zero))
 
 -- a turn of one that fills a point
 pub filled : {g : ℕ → Float} {n : ℕ} {r : List Float} {x : Float} {i : ℕ} → Made 16 (point g) n r i → i < n → x ≡ g i → Made 16 (point g) n (set r i x) (i + 1)
@@ -55,5 +55,5 @@ filled {g = g} {i = i} m h e =
     record {
       within = omega arith;
       small = m.small;
-      made = rw (add-one, e) (ap (λ l. set l i (g i)) m.made ∙ point-more g i (omega (arith, m.small)));
+      made = rw (add-one, e) (ap (λ l. set l i (g i)) m.made ∙ point_more g i (omega (arith, m.small)));
     }

@@ -2,32 +2,32 @@
 use Rattle.std.specs.Prelude.{ℕ, ◌+◌, ◌*◌, Bool, true, ◌&&◌, Float}
 use mathlib.Core.List.{List, foldl, map, zip_with}
 use Rattle.std.specs.Float.Ieee.{neg}
-use Rattle.float.specs.Binary64.{◌⊕◌, ◌⊖◌, ◌⊗◌, ◌⊘◌, plusZero, minusZero}
-use Rattle.float.specs.Values.{absOf, finiteOf, maxOf}
+use Rattle.float.specs.Binary64.{◌⊕◌, ◌⊖◌, ◌⊗◌, ◌⊘◌, plus_zero, minus_zero}
+use Rattle.float.specs.Values.{abs_of, finite_of, max_of}
 use Rattle.vector.specs.Loops.{upto, at}
 
 -- a.iter().zip(b).map(|(&x, &y)| x * y).sum()
 unfoldable pub dot : List Float → List Float → Float
 unfolding zip_with
-dot a b = foldl ◌⊕◌ minusZero (zip_with ◌⊗◌ a b)
+dot a b = foldl ◌⊕◌ minus_zero (zip_with ◌⊗◌ a b)
 
 -- a.iter().fold(0.0, |m, &v| m.max(v.abs()))
-unfoldable pub infNorm : List Float → Float
-infNorm a = foldl (λ m v. maxOf m (absOf v)) plusZero a
+unfoldable pub inf_norm : List Float → Float
+inf_norm a = foldl (λ m v. max_of m (abs_of v)) plus_zero a
 
 -- !a.iter().any(|v| !v.is_finite())
-unfoldable pub allFinite : List Float → Bool
-allFinite a = foldl (λ b v. b && finiteOf v) true a
+unfoldable pub all_finite : List Float → Bool
+all_finite a = foldl (λ b v. b && finite_of v) true a
 
 -- x.iter().zip(d).map(|(&xi, &di)| xi + t * di)
-unfoldable pub plusScaled : List Float → Float → List Float → List Float
+unfoldable pub plus_scaled : List Float → Float → List Float → List Float
 unfolding zip_with
-plusScaled x t d = zip_with (λ xi di. xi ⊕ t ⊗ di) x d
+plus_scaled x t d = zip_with (λ xi di. xi ⊕ t ⊗ di) x d
 
 -- for (qi, yi) in q.iter_mut().zip(y) { *qi -= t * yi }
-unfoldable pub minusScaled : List Float → Float → List Float → List Float
+unfoldable pub minus_scaled : List Float → Float → List Float → List Float
 unfolding zip_with
-minusScaled x t d = zip_with (λ xi di. xi ⊖ t ⊗ di) x d
+minus_scaled x t d = zip_with (λ xi di. xi ⊖ t ⊗ di) x d
 
 -- a.iter().zip(b).map(|(&a, &b)| a - b)
 unfoldable pub difference : List Float → List Float → List Float
@@ -62,9 +62,9 @@ unfolding zip_with
 shrunk b v t = zip_with (λ bi vi. bi ⊕ t ⊗ (vi ⊖ bi)) b v
 
 -- for (i, hyi) in hy.iter_mut().enumerate() { *hyi = dot(&h[i * n..(i + 1) * n], y) }
-unfoldable pub matVec : List (List Float) → List Float → List Float
+unfoldable pub mat_vec : List (List Float) → List Float → List Float
 unfolding dot
-matVec rows v = map (λ row. dot row v) rows
+mat_vec rows v = map (λ row. dot row v) rows
 
 -- ---- lists of n coordinates, read off sixteen
 
@@ -73,9 +73,9 @@ unfoldable pub first : ℕ → List Float → List Float
 first n x = upto (at x) n
 
 -- the first n rows of a matrix of sixteen columns, n coordinates each
-unfoldable pub rowOf : ℕ → List Float → ℕ → List Float
-rowOf n h i = upto (λ j. at h (i * 16 + j)) n
+unfoldable pub row_of : ℕ → List Float → ℕ → List Float
+row_of n h i = upto (λ j. at h (i * 16 + j)) n
 
-unfoldable pub rowsOf : ℕ → List Float → List (List Float)
-unfolding rowOf
-rowsOf n h = upto (rowOf n h) n
+unfoldable pub rows_of : ℕ → List Float → List (List Float)
+unfolding row_of
+rows_of n h = upto (row_of n h) n

@@ -2,13 +2,13 @@
 #![tactic(auto)]
 
 ghost use Rattle.std.specs.Prelude.{◌≡◌, ◌≤◌, ◌<◌, length};
-ghost use Rattle.vector.specs.Points.{fromSliceOf, dotOf, infNormOf, allFiniteOf, plusScaledOf, minusScaledOf, differenceOf, additionOf, quotientOf, scaledOf, negationOf, towardsOf, shrunkOf, rowDotOf, matVecOf};
+ghost use Rattle.vector.specs.Points.{from_slice_of, dot_of, inf_norm_of, all_finite_of, plus_scaled_of, minus_scaled_of, difference_of, addition_of, quotient_of, scaled_of, negation_of, towards_of, shrunk_of, row_dot_of, mat_vec_of};
 
 // The point that a slice lists.
 pub fn from_slice(s: &[f64], n: usize) -> [f64; 16]
     requires n_bound { n ≤ 16 }
     requires n_in_bounds { n ≤ length s.now }
-    ensures { result ≡ fromSliceOf s.now n }
+    ensures { result ≡ from_slice_of s.now n }
 {
     let mut r = [0.0; 16];
     let mut i: usize = 0;
@@ -22,7 +22,7 @@ pub fn from_slice(s: &[f64], n: usize) -> [f64; 16]
 // a · b, from -0.0 as current Rust's sum begins.
 pub fn dot(a: [f64; 16], b: [f64; 16], n: usize) -> f64
     requires { n ≤ 16 }
-    ensures { result ≡ dotOf a b n }
+    ensures { result ≡ dot_of a b n }
 {
     let mut s = -0.0;
     let mut i: usize = 0;
@@ -36,7 +36,7 @@ pub fn dot(a: [f64; 16], b: [f64; 16], n: usize) -> f64
 // The largest magnitude; a NaN is passed over.
 pub fn inf_norm(a: [f64; 16], n: usize) -> f64
     requires { n ≤ 16 }
-    ensures { result ≡ infNormOf a n }
+    ensures { result ≡ inf_norm_of a n }
 {
     let mut m = 0.0;
     let mut i: usize = 0;
@@ -49,7 +49,7 @@ pub fn inf_norm(a: [f64; 16], n: usize) -> f64
 
 pub fn all_finite(a: [f64; 16], n: usize) -> bool
     requires { n ≤ 16 }
-    ensures { result ≡ allFiniteOf a n }
+    ensures { result ≡ all_finite_of a n }
 {
     let mut i: usize = 0;
     while i < n {
@@ -64,7 +64,7 @@ pub fn all_finite(a: [f64; 16], n: usize) -> bool
 // x + t d
 pub fn plus_scaled(x: [f64; 16], t: f64, d: [f64; 16], n: usize) -> [f64; 16]
     requires { n ≤ 16 }
-    ensures { result ≡ plusScaledOf x t d n }
+    ensures { result ≡ plus_scaled_of x t d n }
 {
     let mut r = [0.0; 16];
     let mut i: usize = 0;
@@ -78,7 +78,7 @@ pub fn plus_scaled(x: [f64; 16], t: f64, d: [f64; 16], n: usize) -> [f64; 16]
 // x - t d
 pub fn minus_scaled(x: [f64; 16], t: f64, d: [f64; 16], n: usize) -> [f64; 16]
     requires { n ≤ 16 }
-    ensures { result ≡ minusScaledOf x t d n }
+    ensures { result ≡ minus_scaled_of x t d n }
 {
     let mut r = [0.0; 16];
     let mut i: usize = 0;
@@ -92,7 +92,7 @@ pub fn minus_scaled(x: [f64; 16], t: f64, d: [f64; 16], n: usize) -> [f64; 16]
 // a - b
 pub fn difference(a: [f64; 16], b: [f64; 16], n: usize) -> [f64; 16]
     requires { n ≤ 16 }
-    ensures { result ≡ differenceOf a b n }
+    ensures { result ≡ difference_of a b n }
 {
     let mut r = [0.0; 16];
     let mut i: usize = 0;
@@ -106,7 +106,7 @@ pub fn difference(a: [f64; 16], b: [f64; 16], n: usize) -> [f64; 16]
 // a + b
 pub fn addition(a: [f64; 16], b: [f64; 16], n: usize) -> [f64; 16]
     requires { n ≤ 16 }
-    ensures { result ≡ additionOf a b n }
+    ensures { result ≡ addition_of a b n }
 {
     let mut r = [0.0; 16];
     let mut i: usize = 0;
@@ -120,7 +120,7 @@ pub fn addition(a: [f64; 16], b: [f64; 16], n: usize) -> [f64; 16]
 // a / t
 pub fn quotient(a: [f64; 16], t: f64, n: usize) -> [f64; 16]
     requires { n ≤ 16 }
-    ensures { result ≡ quotientOf a t n }
+    ensures { result ≡ quotient_of a t n }
 {
     let mut r = [0.0; 16];
     let mut i: usize = 0;
@@ -134,7 +134,7 @@ pub fn quotient(a: [f64; 16], t: f64, n: usize) -> [f64; 16]
 // a t
 pub fn scaled(a: [f64; 16], t: f64, n: usize) -> [f64; 16]
     requires { n ≤ 16 }
-    ensures { result ≡ scaledOf a t n }
+    ensures { result ≡ scaled_of a t n }
 {
     let mut r = [0.0; 16];
     let mut i: usize = 0;
@@ -148,7 +148,7 @@ pub fn scaled(a: [f64; 16], t: f64, n: usize) -> [f64; 16]
 // -a
 pub fn negation(a: [f64; 16], n: usize) -> [f64; 16]
     requires { n ≤ 16 }
-    ensures { result ≡ negationOf a n }
+    ensures { result ≡ negation_of a n }
 {
     let mut r = [0.0; 16];
     let mut i: usize = 0;
@@ -162,7 +162,7 @@ pub fn negation(a: [f64; 16], n: usize) -> [f64; 16]
 // A trial point of the simplex: c + t (c - w), from the centroid and the worst vertex.
 pub fn towards(c: [f64; 16], w: [f64; 16], t: f64, n: usize) -> [f64; 16]
     requires { n ≤ 16 }
-    ensures { result ≡ towardsOf c w t n }
+    ensures { result ≡ towards_of c w t n }
 {
     let mut r = [0.0; 16];
     let mut i: usize = 0;
@@ -176,7 +176,7 @@ pub fn towards(c: [f64; 16], w: [f64; 16], t: f64, n: usize) -> [f64; 16]
 // A vertex drawn to the best: b + t (v - b).
 pub fn shrunk(b: [f64; 16], v: [f64; 16], t: f64, n: usize) -> [f64; 16]
     requires { n ≤ 16 }
-    ensures { result ≡ shrunkOf b v t n }
+    ensures { result ≡ shrunk_of b v t n }
 {
     let mut r = [0.0; 16];
     let mut i: usize = 0;
@@ -191,7 +191,7 @@ pub fn shrunk(b: [f64; 16], v: [f64; 16], t: f64, n: usize) -> [f64; 16]
 pub fn row_dot(h: &[f64; 256], i: usize, v: [f64; 16], n: usize) -> f64
     requires i_bound { i < 16 }
     requires n_bound { n ≤ 16 }
-    ensures { result ≡ rowDotOf h.now i v n }
+    ensures { result ≡ row_dot_of h.now i v n }
 {
     let mut sum = -0.0;
     let mut j: usize = 0;
@@ -205,7 +205,7 @@ pub fn row_dot(h: &[f64; 256], i: usize, v: [f64; 16], n: usize) -> f64
 // The first n rows and columns of h by v.
 pub fn mat_vec(h: &[f64; 256], v: [f64; 16], n: usize) -> [f64; 16]
     requires { n ≤ 16 }
-    ensures { result ≡ matVecOf h.now v n n }
+    ensures { result ≡ mat_vec_of h.now v n n }
 {
     let mut r = [0.0; 16];
     let mut i: usize = 0;

@@ -2,12 +2,12 @@
 use mathlib.Core.Path.{◌≡◌, refl, sym, ◌∙◌}
 use mathlib.Core.Bool.{false}
 use Prim.Native.Nat.{ℕ, ◌≤◌, zero-le}
-use Rattle.bench_rosenbrock.specs.Most.{outsideOf, mostOf}
+use Rattle.bench_rosenbrock.specs.Most.{outside_of, most_of}
 use Rattle.bench_rosenbrock.proofs.Inside.{inside}
 use Rattle.bench_rosenbrock.proofs.rosenbrock_fit.Goals as goal
 
-most : (n t : ℕ) → outsideOf n ≡ false → t ≤ 100000 → t ≤ mostOf n
-unfolding mostOf
+most : (n t : ℕ) → outside_of n ≡ false → t ≤ 100000 → t ≤ most_of n
+unfolding most_of
 most n t within bound = rw within bound
 
 pub started-a-requires : goal.started-a-requires

@@ -2,15 +2,15 @@
 use mathlib.Core.Path.{sym, subst}
 use Rattle.protocol.specs.Protocol.{Reply}
 use Rattle.optim_record.specs.declared.Record.{Record}
-use Rattle.optim_record.specs.Record.{outcomeOf}
-use Rattle.fit_line.specs.Turns.{Few, toldOf}
-use Rattle.fit_line.proofs.Few.{answer-few}
+use Rattle.optim_record.specs.Record.{outcome_of}
+use Rattle.fit_line.specs.Turns.{Few, told_of}
+use Rattle.fit_line.proofs.Few.{answer_few}
 use Rattle.fit_line.proofs.told.Goals as goal
 
 pub shown-count-requires : goal.shown-count-requires
-unfolding toldOf outcomeOf
-shown-count-requires c = subst (λ (o : Reply × Record). Few o.0 o.1.n) (sym c.answer-a.ensures.outcome) (answer-few _ _ _ _)
+unfolding told_of outcome_of
+shown-count-requires c = subst (λ (o : Reply × Record). Few o.0 o.1.n) (sym c.answer-a.ensures.outcome) (answer_few _ _ _ _)
 
 pub returns : goal.returns
-unfolding toldOf outcomeOf
+unfolding told_of outcome_of
 returns c = (rw (← c.answer-a.ensures.outcome, ← c.shown-count.ensures.0, ← c.following.ensures), rw (← c.answer-a.ensures.outcome) c.shown-count.ensures.1)

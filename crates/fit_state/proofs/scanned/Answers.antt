@@ -5,8 +5,8 @@ use native.Mathlib.Omega.{arith}
 use lib.ListN.{drop, get_or}
 use borrow.Author.Tests.{eq-eqb, ne_eqb}
 use Rattle.lines_reader.specs.declared.Reader.{Reader}
-use Rattle.fit_state.specs.States.{scannedOf}
-use Rattle.fit_state.proofs.Scans.{scan-feed, scan-go, scan-end}
+use Rattle.fit_state.specs.States.{scanned_of}
+use Rattle.fit_state.proofs.Scans.{scan_feed, scan_go, scan_end}
 use Rattle.fit_state.proofs.scanned.Goals as goal
 
 pub loop-i-init : goal.loop-i-init
@@ -16,18 +16,18 @@ pub returns-then-b-eq10 : goal.returns-then-b-eq10
 returns-then-b-eq10 c =
     let s = c.args.s.now in
     let l = c.loop-i in
-    scan-feed s l.i l.reader (omega arith) (eq-eqb (get_or s l.i 0) 10 c.if-b-eq10.true) ∙ l.invariant
+    scan_feed s l.i l.reader (omega arith) (eq-eqb (get_or s l.i 0) 10 c.if-b-eq10.true) ∙ l.invariant
 
 pub loop-i-preserved : goal.loop-i-preserved
 loop-i-preserved c =
     let s = c.args.s.now in
     let l = c.loop-i in
-    ap (λ (r : Reader). scannedOf (l.i + 1) (drop (l.i + 1) s) r) c.fed-q.ensures
-    ∙ scan-go s l.i l.reader (omega arith) (ne_eqb (get_or s l.i 0) 10 c.if-b-eq10.false)
+    ap (λ (r : Reader). scanned_of (l.i + 1) (drop (l.i + 1) s) r) c.fed-q.ensures
+    ∙ scan_go s l.i l.reader (omega arith) (ne_eqb (get_or s l.i 0) 10 c.if-b-eq10.false)
     ∙ l.invariant
 
 pub returns : goal.returns
 returns c =
     let s = c.args.s.now in
     let l = c.loop-i in
-    scan-end s l.i l.reader (omega arith) ∙ l.invariant
+    scan_end s l.i l.reader (omega arith) ∙ l.invariant

@@ -2,11 +2,11 @@
 use Prim.Native.Nat.{◌-◌}
 use mathlib.Core.Path.{◌≡◌}
 use lib.ListN.{length, drop}
-use Rattle.fit_state.specs.States.{scannedOf}
+use Rattle.fit_state.specs.States.{scanned_of}
 use Rattle.fit_state.proofs.scanned.Given as goal
 
 abbrev pub invariant-loop-i : goal.invariant-loop-i
-invariant-loop-i l = scannedOf l.i (drop l.i l.s) l.reader ≡ scannedOf l.from (drop l.from l.s) l.initial.reader
+invariant-loop-i l = scanned_of l.i (drop l.i l.s) l.reader ≡ scanned_of l.from (drop l.from l.s) l.initial.reader
 
 abbrev pub decreases-loop-i : goal.decreases-loop-i
 decreases-loop-i l = length l.s - l.i

@@ -1,7 +1,7 @@
 -- `float::full_width` meets its contract. Assumes nothing.
 use native.Mathlib.Omega.{arith}
 use lib.Bits.{bit_and}
-use Rattle.float.proofs.Widths.{Top, found, full-low, full-high, fraction}
+use Rattle.float.proofs.Widths.{Top, found, full_low, full_high, fraction}
 use Rattle.float.proofs.full_width.Goals as goal
 
 pub overflow_sub-shift : goal.overflow_sub-shift
@@ -33,7 +33,7 @@ pub overflow_add-result : goal.overflow_add-result
 overflow_add-result c = omega (arith, fraction c.args.b)
 
 pub returns-then-exponent-eq0 : goal.returns-then-exponent-eq0
-returns-then-exponent-eq0 c = full-low c.args.b c.requires.b_nonzero c.if-exponent-eq0.true
+returns-then-exponent-eq0 c = full_low c.args.b c.requires.b_nonzero c.if-exponent-eq0.true
 
 pub returns-else-exponent-eq0 : goal.returns-else-exponent-eq0
-returns-else-exponent-eq0 c = full-high c.args.b c.if-exponent-eq0.false c.requires.b_bound
+returns-else-exponent-eq0 c = full_high c.args.b c.if-exponent-eq0.false c.requires.b_bound

@@ -1,6 +1,6 @@
 -- `float::positive_root` meets its contract. Assumes nothing.
 use native.Mathlib.Omega.{arith}
-use Rattle.float.proofs.Rounded.{width, r-high, no-nan, result-is}
+use Rattle.float.proofs.Rounded.{width, r_high, no_nan, result_is}
 use Rattle.float.proofs.positive_root.Goals as goal
 
 pub integer_root-requires : goal.integer_root-requires
@@ -12,14 +12,14 @@ integer_root-requires c =
 pub overflow_add-q : goal.overflow_add-q
 overflow_add-q c =
     let p = c.full_width-p in
-    omega (arith, r-high c.args.b p.result.m p.result.e p.ensures c.integer_root.result c.integer_root.ensures)
+    omega (arith, r_high c.args.b p.result.m p.result.e p.ensures c.integer_root.result c.integer_root.ensures)
 
 pub float_from_bits-result : goal.float_from_bits-result
 float_from_bits-result c =
     let p = c.full_width-p in
-    no-nan c.args.b p.result.m p.result.e p.ensures c.integer_root.result c.integer_root.ensures
+    no_nan c.args.b p.result.m p.result.e p.ensures c.integer_root.result c.integer_root.ensures
 
 pub returns : goal.returns
 returns c =
     let p = c.full_width-p in
-    result-is c.args.b p.result.m p.result.e p.ensures c.integer_root.result c.integer_root.ensures
+    result_is c.args.b p.result.m p.result.e p.ensures c.integer_root.result c.integer_root.ensures

@@ -1,12 +1,12 @@
 -- `float::tolerance` meets its contract: each return follows the calls and tests that led to it. Assumes nothing.
-use Rattle.float.specs.Values.{toleranceOf}
+use Rattle.float.specs.Values.{tolerance_of}
 use lib.Ieee.{of_bits}
 use Rattle.float.proofs.tolerance.Goals as goal
 
 pub returns-then-x : goal.returns-then-x
-unfolding toleranceOf of_bits
+unfolding tolerance_of of_bits
 returns-then-x c = rw (← c.is_finite.ensures, c.if-x.true)
 
 pub returns : goal.returns
-unfolding toleranceOf of_bits
+unfolding tolerance_of of_bits
 returns c = rw c.if-x.false

@@ -3,11 +3,11 @@ use Prim.Native.Nat.{ℕ, ◌-◌, ◌^◌, ◌≤◌}
 use native.Mathlib.Nat.{mul-le-mul}
 use native.Mathlib.Omega.{arith}
 use Rattle.float.specs.Sqrt.{NotBelowRoot}
-use Rattle.float.proofs.IntegerRoots.{product, not-below, lowered}
+use Rattle.float.proofs.IntegerRoots.{product, not_below, lowered}
 use Rattle.float.proofs.word_root.Goals as goal
 
-at-least : (w r : ℕ) → 2 ^ 58 ≤ w → NotBelowRoot w r → 2 ^ 29 ≤ r
-at-least w r h n = not-below w (2 ^ 29) r h n.most
+at_least : (w r : ℕ) → 2 ^ 58 ≤ w → NotBelowRoot w r → 2 ^ 29 ≤ r
+at_least w r h n = not_below w (2 ^ 29) r h n.most
 
 pub guess-requires : goal.guess-requires
 guess-requires c = c.requires.w_bound
@@ -19,7 +19,7 @@ newton-requires c =
 
 pub newton-r-requires : goal.newton-r-requires
 newton-r-requires c =
-    record { w_bound = c.requires.w_bound; g_large = omega (arith, at-least c.args.w c.newton.result c.requires.w_large c.newton.ensures); g_bound = c.newton.ensures.small }
+    record { w_bound = c.requires.w_bound; g_large = omega (arith, at_least c.args.w c.newton.result c.requires.w_large c.newton.ensures); g_bound = c.newton.ensures.small }
 
 pub loop-r-init : goal.loop-r-init
 loop-r-init c = c.newton-r.ensures
@@ -31,18 +31,18 @@ overflow_mul-r c =
 
 pub overflow_sub-r : goal.overflow_sub-r
 overflow_sub-r c =
-    let in-loop : 2 ^ 29 ≤ c.loop-r.r = at-least c.args.w c.loop-r.r c.requires.w_large c.loop-r.invariant in
-    omega (arith, in-loop)
+    let in_loop : 2 ^ 29 ≤ c.loop-r.r = at_least c.args.w c.loop-r.r c.requires.w_large c.loop-r.invariant in
+    omega (arith, in_loop)
 
 pub loop-r-smaller : goal.loop-r-smaller
 loop-r-smaller c =
-    let in-loop : 2 ^ 29 ≤ c.loop-r.r = at-least c.args.w c.loop-r.r c.requires.w_large c.loop-r.invariant in
-    omega (arith, in-loop)
+    let in_loop : 2 ^ 29 ≤ c.loop-r.r = at_least c.args.w c.loop-r.r c.requires.w_large c.loop-r.invariant in
+    omega (arith, in_loop)
 
 pub loop-r-preserved : goal.loop-r-preserved
 loop-r-preserved c =
-    let in-loop : 2 ^ 29 ≤ c.loop-r.r = at-least c.args.w c.loop-r.r c.requires.w_large c.loop-r.invariant in
-    lowered c.args.w c.loop-r.r (omega (arith, in-loop)) c.loop-r.invariant (omega (arith, c.loop-r-test.true))
+    let in_loop : 2 ^ 29 ≤ c.loop-r.r = at_least c.args.w c.loop-r.r c.requires.w_large c.loop-r.invariant in
+    lowered c.args.w c.loop-r.r (omega (arith, in_loop)) c.loop-r.invariant (omega (arith, c.loop-r-test.true))
 
 pub returns : goal.returns
 returns c = record { least = c.loop-r-test.false; most = c.loop-r.invariant.most }

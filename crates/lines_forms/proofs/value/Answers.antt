@@ -4,11 +4,11 @@ use native.Mathlib.Omega.{arith}
 use Prim.Native.Nat.{◌%◌, ◌^◌}
 use lib.Bits.{and_mask}
 use lib.Ieee.Bits.{nan_bits_above}
-use Rattle.lines_forms.proofs.Values.{nan-bits}
+use Rattle.lines_forms.proofs.Values.{nan_bits}
 use Rattle.lines_forms.proofs.value.Goals as goal
 
 pub returns-then-b-gt9218868437227405312 : goal.returns-then-b-gt9218868437227405312
-returns-then-b-gt9218868437227405312 c = nan-bits c.args.b c.if-b-gt9218868437227405312.true
+returns-then-b-gt9218868437227405312 c = nan_bits c.args.b c.if-b-gt9218868437227405312.true
 
 pub float_from_bits-result : goal.float_from_bits-result
 float_from_bits-result c =

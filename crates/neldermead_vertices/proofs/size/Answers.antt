@@ -1,18 +1,18 @@
 -- `neldermead_vertices::size` meets its contract: after i turns it has made what the definition makes of i. Assumes nothing.
 use mathlib.Core.Path.{refl}
 use lib.Ieee.{of_bits}
-use Rattle.neldermead_vertices.specs.Vertices.{sizeOf}
+use Rattle.neldermead_vertices.specs.Vertices.{size_of}
 use Rattle.vector.proofs.Loops.{start, carried, done}
 use Rattle.neldermead_vertices.proofs.size.Goals as goal
 
 pub loop-i-init : goal.loop-i-init
-unfolding sizeOf of_bits
+unfolding size_of of_bits
 loop-i-init c = start c.requires refl
 
 pub loop-i-preserved : goal.loop-i-preserved
-unfolding sizeOf of_bits
+unfolding size_of of_bits
 loop-i-preserved c = carried c.loop-i.invariant c.loop-i-test.true (cc)
 
 pub returns : goal.returns
-unfolding sizeOf of_bits
+unfolding size_of of_bits
 returns c = done c.loop-i.invariant c.loop-i-test.false

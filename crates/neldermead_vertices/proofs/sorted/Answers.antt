@@ -7,8 +7,8 @@ use mathlib.Core.List.{List}
 use native.Mathlib.Omega.{arith}
 use lib.ListN.{length, length-set}
 use Rattle.neldermead_vertices.specs.declared.Vertex.{Vertex}
-use Rattle.neldermead_vertices.specs.Vertices.{insertedOf, sortedOf}
-use Rattle.neldermead_vertices.proofs.Insertion.{put-goes, put-stays, put-ends, sortedFrom, sorted-starts, sorted-goes}
+use Rattle.neldermead_vertices.specs.Vertices.{inserted_of, sorted_of}
+use Rattle.neldermead_vertices.proofs.Insertion.{put_goes, put_stays, put_ends, sorted_from, sorted_starts, sorted_goes}
 use Rattle.neldermead_vertices.proofs.sorted.Goals as goal
 use Rattle.neldermead_vertices.proofs.sorted.Goals.{else-loop-j-test, then-loop-j-test+then-not-precedes}
 
@@ -16,7 +16,7 @@ pub loop-i-init : goal.loop-i-init
 loop-i-init c =
     let a = c.args in
     let long : length a.v ≡ 17 = search rules in
-    (search rules, long, sorted-starts a.v a.n (omega arith))
+    (search rules, long, sorted_starts a.v a.n (omega arith))
 
 pub loop-j-init : goal.loop-j-init
 loop-j-init c = (search rules, search rules, refl)
@@ -25,30 +25,30 @@ pub loop-j-preserved : goal.loop-j-preserved
 loop-j-preserved c =
     let l = c.loop-j in
     let long = l.invariant.1 in
-    (search rules, simp length-set long, put-goes _ l.w _ (omega arith) l.j c.loop-j-test.true (sym c.precedes.ensures ∙ c.if-not-precedes.false) ∙ l.invariant.2)
+    (search rules, simp length-set long, put_goes _ l.w _ (omega arith) l.j c.loop-j-test.true (sym c.precedes.ensures ∙ c.if-not-precedes.false) ∙ l.invariant.2)
 
 pub loop-i-preserved : goal.loop-i-preserved
-unfolding insertedOf
+unfolding inserted_of
 loop-i-preserved c =
     let a = c.args in
     let o = c.loop-i in
     let l = c.loop-j in
     let long : length a.v ≡ 17 = search rules in
     let still = l.invariant.1 in
-    let next = ap (λ (w : List Vertex). insertedOf w (o.i - 1) a.n) o.invariant.2 ∙ sorted-goes a.v a.n (omega arith) o.i c.loop-i-test.true o.invariant.0 in (
+    let next = ap (λ (w : List Vertex). inserted_of w (o.i - 1) a.n) o.invariant.2 ∙ sorted_goes a.v a.n (omega arith) o.i c.loop-i-test.true o.invariant.0 in (
       omega arith,
       simp length-set still,
       elim c.loop-j-test.branch [
         | else-loop-j-test w ↦
             let end : l.j ≡ a.n = omega (arith, w.loop-j-test.false) in
-            rw end (put-ends _ l.w a.n (omega arith)) ∙ rw end at l.invariant.2 ∙ next
+            rw end (put_ends _ l.w a.n (omega arith)) ∙ rw end at l.invariant.2 ∙ next
         | then-loop-j-test+then-not-precedes w ↦
-            put-stays _ l.w _ (omega arith) l.j w.loop-j-test.true (sym w.precedes.ensures ∙ w.if-not-precedes.true) ∙ l.invariant.2 ∙ next
+            put_stays _ l.w _ (omega arith) l.j w.loop-j-test.true (sym w.precedes.ensures ∙ w.if-not-precedes.true) ∙ l.invariant.2 ∙ next
       ],
     )
 
 pub returns : goal.returns
-unfolding sortedOf sortedFrom
+unfolding sorted_of sorted_from
 returns c =
     let l = c.loop-i in
     let end : l.i ≡ 0 = omega arith in

@@ -3,11 +3,11 @@ use Prim.Native.Nat.{◌-◌, ◌≤◌}
 use mathlib.Core.Path.{◌≡◌}
 use lib.ListN.{length, drop}
 use Rattle.optim_lists.specs.Layout as place
-use Rattle.optim_lists.specs.Lists.{flagsOnly}
+use Rattle.optim_lists.specs.Lists.{flags_only}
 use Rattle.optim_lent.proofs.formed.Given as goal
 
 abbrev pub invariant-loop-i : goal.invariant-loop-i
-invariant-loop-i l = (length l.m ≡ 36) × (l.i ≤ 36) × (flagsOnly (drop l.i l.m) ≡ flagsOnly (drop place.flags l.m))
+invariant-loop-i l = (length l.m ≡ 36) × (l.i ≤ 36) × (flags_only (drop l.i l.m) ≡ flags_only (drop place.flags l.m))
 
 abbrev pub decreases-loop-i : goal.decreases-loop-i
 decreases-loop-i l = 36 - l.i

@@ -1,13 +1,13 @@
 -- `optim_lent_start::bfgs` meets its contract, by what its start says. Assumes nothing.
 use mathlib.Core.Path.{sym, ap, ◌∙◌}
-use Rattle.optim_reply.specs.Spoken.{spokenBy}
-use Rattle.optim_lent_start.proofs.Laws.{start-as}
+use Rattle.optim_reply.specs.Spoken.{spoken_by}
+use Rattle.optim_lent_start.proofs.Laws.{start_as}
 use Rattle.optim_lent_start.proofs.bfgs.Goals as goal
 
 pub opened-requires : goal.opened-requires
-opened-requires c = c.bfgs-begun.ensures.spoken ∙ ap spokenBy (sym c.bfgs-begun.ensures.outcome)
+opened-requires c = c.bfgs-begun.ensures.spoken ∙ ap spoken_by (sym c.bfgs-begun.ensures.outcome)
 
 pub returns : goal.returns
 returns c =
     let a = c.args in
-    start-as a.point.now a.slopes.now _ _ c.bfgs-begun.ensures.outcome c.opened.ensures
+    start_as a.point.now a.slopes.now _ _ c.bfgs-begun.ensures.outcome c.opened.ensures

@@ -1,13 +1,13 @@
 -- `optim_lent_start::differences` meets its contract, by what its start says. Assumes nothing.
 use mathlib.Core.Path.{sym, ap, ◌∙◌}
-use Rattle.optim_reply.specs.Spoken.{spokenBy}
-use Rattle.optim_lent_start.proofs.Laws.{start-as}
+use Rattle.optim_reply.specs.Spoken.{spoken_by}
+use Rattle.optim_lent_start.proofs.Laws.{start_as}
 use Rattle.optim_lent_start.proofs.differences.Goals as goal
 
 pub opened-requires : goal.opened-requires
-opened-requires c = c.differences-begun.ensures.spoken ∙ ap spokenBy (sym c.differences-begun.ensures.outcome)
+opened-requires c = c.differences-begun.ensures.spoken ∙ ap spoken_by (sym c.differences-begun.ensures.outcome)
 
 pub returns : goal.returns
 returns c =
     let a = c.args in
-    start-as a.point.now a.slopes.now _ _ c.differences-begun.ensures.outcome c.opened.ensures
+    start_as a.point.now a.slopes.now _ _ c.differences-begun.ensures.outcome c.opened.ensures

@@ -1,13 +1,13 @@
 -- `optim_lent_start::search` meets its contract, by what its start says. Assumes nothing.
 use mathlib.Core.Path.{sym, ap, ◌∙◌}
-use Rattle.optim_reply.specs.Spoken.{spokenBy}
-use Rattle.optim_lent_start.proofs.Laws.{start-as}
+use Rattle.optim_reply.specs.Spoken.{spoken_by}
+use Rattle.optim_lent_start.proofs.Laws.{start_as}
 use Rattle.optim_lent_start.proofs.search.Goals as goal
 
 pub opened-requires : goal.opened-requires
-opened-requires c = c.search-begun.ensures.spoken ∙ ap spokenBy (sym c.search-begun.ensures.outcome)
+opened-requires c = c.search-begun.ensures.spoken ∙ ap spoken_by (sym c.search-begun.ensures.outcome)
 
 pub returns : goal.returns
 returns c =
     let a = c.args in
-    start-as a.point.now a.slopes.now _ _ c.search-begun.ensures.outcome c.opened.ensures
+    start_as a.point.now a.slopes.now _ _ c.search-begun.ensures.outcome c.opened.ensures

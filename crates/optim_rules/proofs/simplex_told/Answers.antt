@@ -1,9 +1,9 @@
 -- `optim_rules::simplex_told` meets its contract: each return follows the calls and tests that led to it. Assumes nothing.
-use Rattle.optim_rules.specs.Moves.{simplexToldOf}
+use Rattle.optim_rules.specs.Moves.{simplex_told_of}
 use Rattle.optim_rules.proofs.simplex_told.Goals as goal
 
 pub told-requires : goal.told-requires
-unfolding simplexToldOf
+unfolding simplex_told_of
 told-requires c =
     rw c.fixed-fixed.ensures (record {
       n_nonzero = c.requires.ranges.some c.requires.job_value;
@@ -12,5 +12,5 @@ told-requires c =
     })
 
 pub returns : goal.returns
-unfolding simplexToldOf
+unfolding simplex_told_of
 returns c = rw (← c.fixed-fixed.ensures, ← c.read-f.ensures, ← c.told.ensures)

@@ -2,12 +2,12 @@
 use Prim.Native.Nat.{◌-◌}
 use mathlib.Core.Path.{◌≡◌}
 use lib.ListN.{length}
-use Rattle.neldermead_vertices.specs.Vertices.{vertexAt}
+use Rattle.neldermead_vertices.specs.Vertices.{vertex_at}
 use Rattle.optim_lists.proofs.Places.{Setting}
 use Rattle.optim_store.proofs.values_of.Given as goal
 
 abbrev pub invariant-loop-i : goal.invariant-loop-i
-invariant-loop-i l = (length l.v ≡ 17) × Setting 17 (λ j. (vertexAt l.v j).f) l.initial.fs l.fs l.i
+invariant-loop-i l = (length l.v ≡ 17) × Setting 17 (λ j. (vertex_at l.v j).f) l.initial.fs l.fs l.i
 
 abbrev pub decreases-loop-i : goal.decreases-loop-i
 decreases-loop-i l = 17 - l.i

@@ -1,20 +1,20 @@
 -- `quasinewton_dense::prepared` meets its contract: each return follows the calls and tests that led to it. Assumes nothing.
-use Rattle.quasinewton_dense.specs.Step.{preparedOf}
+use Rattle.quasinewton_dense.specs.Step.{prepared_of}
 use lib.Ieee.{of_bits}
 use Rattle.quasinewton_dense.proofs.prepared.Goals as goal
 
 pub returns-then-not-d : goal.returns-then-not-d
-unfolding preparedOf of_bits
+unfolding prepared_of of_bits
 returns-then-not-d c = rw c.if-not-d.true
 
 pub returns-then-sy : goal.returns-then-sy
-unfolding preparedOf of_bits
+unfolding prepared_of of_bits
 returns-then-sy c = rw (← c.dot-yy.ensures, ← c.diagonal.ensures, c.if-not-d.false, c.if-yy.true, c.if-sy.true)
 
 pub returns-then-yy : goal.returns-then-yy
-unfolding preparedOf of_bits
+unfolding prepared_of of_bits
 returns-then-yy c = rw (← c.dot-yy.ensures, c.if-not-d.false, c.if-yy.true, c.if-sy.false)
 
 pub returns : goal.returns
-unfolding preparedOf of_bits
+unfolding prepared_of of_bits
 returns c = rw (← c.dot-yy.ensures, c.if-not-d.false, c.if-yy.false)

@@ -2,19 +2,19 @@
 use borrow.Author.Rules.{rules}
 use mathlib.Core.Path.{refl, ap, ◌∙◌}
 use lib.Ieee.{of_bits}
-use Rattle.quasinewton_limited.specs.Step.{downFrom, allDownOf}
-use Rattle.quasinewton_limited.proofs.Loops.{down-goes, down-ends}
+use Rattle.quasinewton_limited.specs.Step.{down_from, all_down_of}
+use Rattle.quasinewton_limited.proofs.Loops.{down_goes, down_ends}
 use Rattle.quasinewton_limited.proofs.all_down.Goals as goal
 
 pub loop-i-init : goal.loop-i-init
-unfolding allDownOf of_bits
+unfolding all_down_of of_bits
 loop-i-init c = (search rules, refl)
 
 pub loop-i-preserved : goal.loop-i-preserved
 loop-i-preserved c =
     let l = c.loop-i in
-    (search rules, ap (downFrom _ _ _) c.down-next.ensures ∙ down-goes _ _ l.i l.w c.loop-i-test.true ∙ l.invariant.1)
+    (search rules, ap (down_from _ _ _) c.down-next.ensures ∙ down_goes _ _ l.i l.w c.loop-i-test.true ∙ l.invariant.1)
 
 pub returns : goal.returns
-unfolding allDownOf of_bits
-returns c = down-ends _ _ c.loop-i.i c.loop-i.w c.loop-i-test.false ∙ c.loop-i.invariant.1
+unfolding all_down_of of_bits
+returns c = down_ends _ _ c.loop-i.i c.loop-i.w c.loop-i-test.false ∙ c.loop-i.invariant.1

@@ -2,17 +2,17 @@
 use borrow.Author.Rules.{rules}
 use mathlib.Core.Path.{refl}
 use Rattle.vector.proofs.Loops.{start, carried, done}
-use Rattle.quasinewton_limited.specs.Step.{allUpOf}
+use Rattle.quasinewton_limited.specs.Step.{all_up_of}
 use Rattle.quasinewton_limited.proofs.all_up.Goals as goal
 
 pub loop-i-init : goal.loop-i-init
-unfolding allUpOf
+unfolding all_up_of
 loop-i-init c = start (search rules) refl
 
 pub loop-i-preserved : goal.loop-i-preserved
-unfolding allUpOf
+unfolding all_up_of
 loop-i-preserved c = carried c.loop-i.invariant c.loop-i-test.true c.up-next.ensures
 
 pub returns : goal.returns
-unfolding allUpOf
+unfolding all_up_of
 returns c = done c.loop-i.invariant c.loop-i-test.false

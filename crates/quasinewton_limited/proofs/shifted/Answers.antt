@@ -2,17 +2,17 @@
 use borrow.Author.Rules.{rules}
 use mathlib.Core.Path.{refl}
 use Rattle.vector.proofs.Loops.{start, carried, done}
-use Rattle.quasinewton_limited.specs.Step.{shiftedOf}
+use Rattle.quasinewton_limited.specs.Step.{shifted_of}
 use Rattle.quasinewton_limited.proofs.shifted.Goals as goal
 
 pub loop-i-init : goal.loop-i-init
-unfolding shiftedOf
+unfolding shifted_of
 loop-i-init c = start (search rules) refl
 
 pub loop-i-preserved : goal.loop-i-preserved
-unfolding shiftedOf
+unfolding shifted_of
 loop-i-preserved c = carried c.loop-i.invariant c.loop-i-test.true refl
 
 pub returns : goal.returns
-unfolding shiftedOf
+unfolding shifted_of
 returns c = done c.loop-i.invariant c.loop-i-test.false

@@ -1,16 +1,16 @@
 -- `quasinewton_model::direction` meets its contract: each return follows the calls and tests that led to it. Assumes nothing.
 use borrow.Author.Rules.{rules}
-use Rattle.quasinewton_model.specs.Step.{directionOf}
+use Rattle.quasinewton_model.specs.Step.{direction_of}
 use Rattle.quasinewton_model.proofs.direction.Goals as goal
 
 pub limited_direction-requires : goal.limited_direction-requires
-unfolding directionOf
+unfolding direction_of
 limited_direction-requires c = search (rules, c.requires.few_pairs.few c.if-m.true)
 
 pub returns-then-m : goal.returns-then-m
-unfolding directionOf
+unfolding direction_of
 returns-then-m c = rw (← c.limited_direction.ensures, c.if-m.true)
 
 pub returns : goal.returns
-unfolding directionOf
+unfolding direction_of
 returns c = rw (← c.dense_direction.ensures, c.if-m.false)

@@ -6,14 +6,14 @@ use mathlib.Core.Path.{sym}
 use lib.Bits.{and_mask}
 use lib.Ieee.{of_bits, div}
 use lib.Ieee.Bits.{nan_bits_above}
-use Rattle.float.proofs.Bits.{nan-above}
+use Rattle.float.proofs.Bits.{nan_above}
 use Rattle.test_rows.proofs.value.Goals as goal
 
 pub returns-then-bits-gt9218868437227405312 : goal.returns-then-bits-gt9218868437227405312
 unfolding div of_bits
 returns-then-bits-gt9218868437227405312 c =
     let b = c.args.bits in
-    sym (nan-above b (omega (arith, and_mask b 63, c.if-bits-gt9218868437227405312.true)))
+    sym (nan_above b (omega (arith, and_mask b 63, c.if-bits-gt9218868437227405312.true)))
 
 pub float_from_bits-result : goal.float_from_bits-result
 unfolding div of_bits

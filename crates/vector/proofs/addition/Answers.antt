@@ -1,18 +1,18 @@
 -- `vector::addition` meets its contract: after i turns it has made what the definition makes of i. Assumes nothing.
 use mathlib.Core.Path.{refl}
 use lib.Ieee.{of_bits}
-use Rattle.vector.specs.Points.{additionOf}
+use Rattle.vector.specs.Points.{addition_of}
 use Rattle.vector.proofs.Loops.{start, filled, done}
 use Rattle.vector.proofs.addition.Goals as goal
 
 pub loop-i-init : goal.loop-i-init
-unfolding additionOf of_bits
+unfolding addition_of of_bits
 loop-i-init c = start c.requires refl
 
 pub loop-i-preserved : goal.loop-i-preserved
-unfolding additionOf of_bits
+unfolding addition_of of_bits
 loop-i-preserved c = filled c.loop-i.invariant c.loop-i-test.true refl
 
 pub returns : goal.returns
-unfolding additionOf of_bits
+unfolding addition_of of_bits
 returns c = done c.loop-i.invariant c.loop-i-test.false

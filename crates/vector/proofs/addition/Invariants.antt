@@ -1,11 +1,11 @@
 -- `vector::addition` meets its contract: after i turns it has made what the definition makes of i. Assumes nothing.
 use Prim.Native.Nat.{◌-◌}
-use Rattle.vector.specs.Points.{additionOf}
+use Rattle.vector.specs.Points.{addition_of}
 use Rattle.vector.proofs.Loops.{Made}
 use Rattle.vector.proofs.addition.Given as goal
 
 abbrev pub invariant-loop-i : goal.invariant-loop-i
-invariant-loop-i l = Made 16 (additionOf l.a l.b) l.n l.r l.i
+invariant-loop-i l = Made 16 (addition_of l.a l.b) l.n l.r l.i
 
 abbrev pub decreases-loop-i : goal.decreases-loop-i
 decreases-loop-i l = l.n - l.i

@@ -1,18 +1,18 @@
 -- `vector::difference` meets its contract: after i turns it has made what the definition makes of i. Assumes nothing.
 use mathlib.Core.Path.{refl}
 use lib.Ieee.{of_bits}
-use Rattle.vector.specs.Points.{differenceOf}
+use Rattle.vector.specs.Points.{difference_of}
 use Rattle.vector.proofs.Loops.{start, filled, done}
 use Rattle.vector.proofs.difference.Goals as goal
 
 pub loop-i-init : goal.loop-i-init
-unfolding differenceOf of_bits
+unfolding difference_of of_bits
 loop-i-init c = start c.requires refl
 
 pub loop-i-preserved : goal.loop-i-preserved
-unfolding differenceOf of_bits
+unfolding difference_of of_bits
 loop-i-preserved c = filled c.loop-i.invariant c.loop-i-test.true refl
 
 pub returns : goal.returns
-unfolding differenceOf of_bits
+unfolding difference_of of_bits
 returns c = done c.loop-i.invariant c.loop-i-test.false

@@ -1,11 +1,11 @@
 -- `vector::difference` meets its contract: after i turns it has made what the definition makes of i. Assumes nothing.
 use Prim.Native.Nat.{◌-◌}
-use Rattle.vector.specs.Points.{differenceOf}
+use Rattle.vector.specs.Points.{difference_of}
 use Rattle.vector.proofs.Loops.{Made}
 use Rattle.vector.proofs.difference.Given as goal
 
 abbrev pub invariant-loop-i : goal.invariant-loop-i
-invariant-loop-i l = Made 16 (differenceOf l.a l.b) l.n l.r l.i
+invariant-loop-i l = Made 16 (difference_of l.a l.b) l.n l.r l.i
 
 abbrev pub decreases-loop-i : goal.decreases-loop-i
 decreases-loop-i l = l.n - l.i

@@ -1,11 +1,11 @@
 -- `vector::from_slice` meets its contract: after i turns it has made what the definition makes of i. Assumes nothing.
 use Prim.Native.Nat.{◌-◌}
-use Rattle.vector.specs.Points.{fromSliceOf}
+use Rattle.vector.specs.Points.{from_slice_of}
 use Rattle.vector.proofs.Loops.{Made}
 use Rattle.vector.proofs.from_slice.Given as goal
 
 abbrev pub invariant-loop-i : goal.invariant-loop-i
-invariant-loop-i l = Made 16 (fromSliceOf l.s) l.n l.r l.i
+invariant-loop-i l = Made 16 (from_slice_of l.s) l.n l.r l.i
 
 abbrev pub decreases-loop-i : goal.decreases-loop-i
 decreases-loop-i l = l.n - l.i

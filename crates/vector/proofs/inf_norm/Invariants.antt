@@ -1,11 +1,11 @@
 -- `vector::inf_norm` meets its contract: after i turns it has made what the definition makes of i. Assumes nothing.
 use Prim.Native.Nat.{◌-◌}
-use Rattle.vector.specs.Points.{infNormOf}
+use Rattle.vector.specs.Points.{inf_norm_of}
 use Rattle.vector.proofs.Loops.{Made}
 use Rattle.vector.proofs.inf_norm.Given as goal
 
 abbrev pub invariant-loop-i : goal.invariant-loop-i
-invariant-loop-i l = Made 16 (infNormOf l.a) l.n l.m l.i
+invariant-loop-i l = Made 16 (inf_norm_of l.a) l.n l.m l.i
 
 abbrev pub decreases-loop-i : goal.decreases-loop-i
 decreases-loop-i l = l.n - l.i

@@ -1,18 +1,18 @@
 -- `vector::mat_vec` meets its contract: after i turns it has made what the definition makes of i. Assumes nothing.
 use mathlib.Core.Path.{refl}
 use lib.Ieee.{of_bits}
-use Rattle.vector.specs.Points.{matVecOf}
+use Rattle.vector.specs.Points.{mat_vec_of}
 use Rattle.vector.proofs.Loops.{start, filled, done}
 use Rattle.vector.proofs.mat_vec.Goals as goal
 
 pub loop-i-init : goal.loop-i-init
-unfolding matVecOf of_bits
+unfolding mat_vec_of of_bits
 loop-i-init c = start c.requires refl
 
 pub loop-i-preserved : goal.loop-i-preserved
-unfolding matVecOf of_bits
+unfolding mat_vec_of of_bits
 loop-i-preserved c = filled c.loop-i.invariant c.loop-i-test.true c.row_dot.ensures
 
 pub returns : goal.returns
-unfolding matVecOf of_bits
+unfolding mat_vec_of of_bits
 returns c = done c.loop-i.invariant c.loop-i-test.false

@@ -1,11 +1,11 @@
 -- `vector::negation` meets its contract: after i turns it has made what the definition makes of i. Assumes nothing.
 use Prim.Native.Nat.{◌-◌}
-use Rattle.vector.specs.Points.{negationOf}
+use Rattle.vector.specs.Points.{negation_of}
 use Rattle.vector.proofs.Loops.{Made}
 use Rattle.vector.proofs.negation.Given as goal
 
 abbrev pub invariant-loop-i : goal.invariant-loop-i
-invariant-loop-i l = Made 16 (negationOf l.a) l.n l.r l.i
+invariant-loop-i l = Made 16 (negation_of l.a) l.n l.r l.i
 
 abbrev pub decreases-loop-i : goal.decreases-loop-i
 decreases-loop-i l = l.n - l.i

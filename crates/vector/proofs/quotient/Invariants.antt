@@ -1,11 +1,11 @@
 -- `vector::quotient` meets its contract: after i turns it has made what the definition makes of i. Assumes nothing.
 use Prim.Native.Nat.{◌-◌}
-use Rattle.vector.specs.Points.{quotientOf}
+use Rattle.vector.specs.Points.{quotient_of}
 use Rattle.vector.proofs.Loops.{Made}
 use Rattle.vector.proofs.quotient.Given as goal
 
 abbrev pub invariant-loop-i : goal.invariant-loop-i
-invariant-loop-i l = Made 16 (quotientOf l.a l.t) l.n l.r l.i
+invariant-loop-i l = Made 16 (quotient_of l.a l.t) l.n l.r l.i
 
 abbrev pub decreases-loop-i : goal.decreases-loop-i
 decreases-loop-i l = l.n - l.i

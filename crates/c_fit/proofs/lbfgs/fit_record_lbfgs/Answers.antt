@@ -1,7 +1,7 @@
 -- `c_fit::lbfgs::fit_record_lbfgs` meets its contract: what the engine says is handed on. Assumes nothing.
-use Rattle.optim_start.specs.Start.{lbfgsOf}
-use Rattle.c_fit.proofs.Laws.{handed-as, fit-as}
+use Rattle.optim_start.specs.Start.{lbfgs_of}
+use Rattle.c_fit.proofs.Laws.{handed_as, fit_as}
 use Rattle.c_fit.proofs.lbfgs.fit_record_lbfgs.Goals as goal
 
 pub returns : goal.returns
-returns c = handed-as _ _ _ _ (fit-as lbfgsOf _ c.to_gradient-options.ensures c.to_allowances-both.ensures) c.hand.ensures c.lbfgs-said.ensures
+returns c = handed_as _ _ _ _ (fit_as lbfgs_of _ c.to_gradient-options.ensures c.to_allowances-both.ensures) c.hand.ensures c.lbfgs-said.ensures

@@ -1,7 +1,7 @@
 -- `c_fit::simplex::fit_record_simplex` meets its contract: what the engine says is handed on. Assumes nothing.
-use Rattle.optim_start.specs.Start.{simplexOf}
-use Rattle.c_fit.proofs.Laws.{handed-as, fit-as}
+use Rattle.optim_start.specs.Start.{simplex_of}
+use Rattle.c_fit.proofs.Laws.{handed_as, fit_as}
 use Rattle.c_fit.proofs.simplex.fit_record_simplex.Goals as goal
 
 pub returns : goal.returns
-returns c = handed-as _ _ _ _ (fit-as simplexOf _ c.to_simplex-options.ensures c.to_allowances-both.ensures) c.hand.ensures c.simplex-said.ensures
+returns c = handed_as _ _ _ _ (fit_as simplex_of _ c.to_simplex-options.ensures c.to_allowances-both.ensures) c.hand.ensures c.simplex-said.ensures

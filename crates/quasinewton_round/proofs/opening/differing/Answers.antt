@@ -1,12 +1,12 @@
 -- `quasinewton_round::opening::differing` meets its contract: each return follows the calls and tests that led to it. Assumes nothing.
 use borrow.Author.Tests.{le-ltb, lt-ltb}
-use Rattle.quasinewton_round.specs.Opening.{differingOf}
+use Rattle.quasinewton_round.specs.Opening.{differing_of}
 use Rattle.quasinewton_round.proofs.opening.differing.Goals as goal
 
 pub returns-then-e-fixed : goal.returns-then-e-fixed
-unfolding differingOf
+unfolding differing_of
 returns-then-e-fixed c = rw (lt-ltb _ _ c.if-e-fixed.true)
 
 pub returns : goal.returns
-unfolding differingOf
+unfolding differing_of
 returns c = rw (← c.graded.ensures, le-ltb _ _ c.if-e-fixed.false)
