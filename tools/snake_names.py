@@ -1,7 +1,7 @@
 #!/usr/bin/env python3
 """Spells the repository's own definitions and lemmas as today's Rattle does: words in snake case, types and modules in camel case.
 
-usage: python3 tools/snake_names.py [--check] [--labels FOLDER] [FOLDER]
+usage: python3 tools/snake_names.py [--check] [--anyway] [--labels FOLDER] [FOLDER]
 
 Reads each name that an .antt file below FOLDER/crates declares, at the top level, as a field or as a constructor, and respells it: a hump
 or a dash becomes an underscore, and a name that begins with a capital and has no dash is a type's and stays. What turns: whole words in
@@ -9,7 +9,8 @@ or a dash becomes an underscore, and a name that begins with a capital and has n
 prover names stays: the goals that Answers.antt and Invariants.antt answer, and labels behind a dot in them. Those are read off the
 output of `rt names`, where --labels gives its folder, and else taken to be what is declared or stands behind a dot in these files
 and is declared nowhere else. A name whose new spelling stands already in a file that has the old one would fall together with it:
-it gets the spelling of CLASHES, and without one the script stops and names it. --check writes nothing and prints the table.
+it gets the spelling of CLASHES, and without one the script stops and names it; --anyway goes on, for a tree that is only read beside
+this one. --check writes nothing and prints the table.
 """
 import collections
 import json
@@ -196,7 +197,8 @@ def clashes(texts, table, made):
 
 def main(argv):
     check = "--check" in argv
-    argv = [a for a in argv if a != "--check"]
+    anyway = "--anyway" in argv
+    argv = [a for a in argv if a not in ("--check", "--anyway")]
     labels = set()
     if "--labels" in argv:
         at = argv.index("--labels")
@@ -215,7 +217,7 @@ def main(argv):
         for w in sorted(table):
             print(w, table[w])
         return 1 if said else 0
-    if said:
+    if said and not anyway:
         return 1
     turner = Turner(table, made, own)
     for path in list(texts) + list(pages(top)):
