@@ -106,15 +106,25 @@ def table_of(texts, labels):
     return {w: new + "_lem" if "-" in w and new in taken else new for w, new in odd.items()}, made, own
 
 
+def foreign(text, crates):
+    """The names that a file has from libraries of the kit: they stay."""
+    found = set()
+    for path, items in re.findall(r"(?m)^(?:(?:unfoldable|pub) )*use ([^\s{]+?)\.?\{([^}\n]*)\}", text):
+        steps = path.split(".")
+        if not (steps[0] == "Rattle" and len(steps) > 1 and steps[1] in crates or steps[0] in ("package", "crate")):
+            found.update(WORD.findall(items))
+    return found
+
+
 class Turner:
     def __init__(self, table, made, own):
         self.table, self.made, self.own = table, made, own
-        self.here = set()
+        self.here, self.theirs, self.crates = set(), set(), set()
 
     def words(self, text, proof):
         def one(m):
             w = m[0]
-            if w not in self.table:
+            if w not in self.table or w in self.theirs:
                 return w
             if proof and w in self.made and (w not in self.own or text[:m.start()].endswith(".")):
                 return w
@@ -155,11 +165,13 @@ class Turner:
             out.append(code + self.prose(line[cut:]))
         return "\n".join(out)
 
-    def edit(self, text):
+    def edit(self, path, text):
         target, out = "", []
         for line in text.split("\n"):
             if line.startswith("file: "):
                 target = line[6:].strip()
+                at = os.path.join(os.path.dirname(os.path.dirname(path)), target)
+                self.theirs = foreign(read(at), self.crates) if target.endswith(".antt") and os.path.exists(at) else set()
                 out.append(line)
             elif line.startswith(("old: ", "new: ")):
                 body = line[5:]
@@ -171,12 +183,13 @@ class Turner:
 
     def turn(self, path, text):
         self.here = set(WORD.findall(bare(text))) if path.endswith(".antt") else set()
+        self.theirs = foreign(text, self.crates) if path.endswith(".antt") else set()
         if path.endswith(".antt"):
             return self.antt(text, bool(MADE.search(path)))
         if path.endswith(".rt"):
             return self.rt(text)
         if path.endswith(".edit"):
-            return self.edit(text)
+            return self.edit(path, text)
         return FENCE.sub(lambda m: self.prose(m[0]), self.prose(text))
 
 
@@ -220,6 +233,7 @@ def main(argv):
     if said and not anyway:
         return 1
     turner = Turner(table, made, own)
+    turner.crates = set(os.listdir(os.path.join(top, "crates")))
     for path in list(texts) + list(pages(top)):
         old = texts[path] if path in texts else read(path)
         new = turner.turn(path, old)

@@ -1,5 +1,5 @@
 -- A run so far: what was read, where it leads, and what was written. Assumes nothing.
-use Rattle.std.proofs.Common.{◌≡◌, ℕ, Bool, true, false, not, List, [], ◌++◌, Option, Some, None, IfSome, take, sym, ap, subst, ◌∙◌, append_nil}
+use Rattle.std.proofs.Common.{◌≡◌, ℕ, Bool, true, false, not, List, [], ◌++◌, Option, Some, None, IfSome, take, sym, ap, subst, ◌∙◌, append-nil}
 use Rattle.std.proofs.lemmas.Bool.{not-false}
 use Rattle.std.proofs.KnownBytes.{Appends-nil, Consumes-nil, Consumes-trans, Consumes-whole}
 use Rattle.std.specs.Io.KnownBytes.{Appends, Consumes, IsAtEnd}
@@ -60,7 +60,7 @@ stop_due a b u v p (bs, read, at, wrote) stop =
     (λ cs.
     let q = (passed_of first_place bs).1 in
     let none = program_laws.silent q.state q.reader cs (sym (ap (λ (r : Place). r.state.due) at) ∙ stop) in
-    subst (Appends u v) (sym (due bs cs ∙ ap (λ l. (passed_of first_place bs).0 ++ l) none ∙ append_nil _)) wrote)
+    subst (Appends u v) (sym (due bs cs ∙ ap (λ l. (passed_of first_place bs).0 ++ l) none ∙ append-nil _)) wrote)
 
 -- a read of none shows the end, where what the open line brings is due
 pub end_due : (w : Bool) (a b c u v x : Option (List ℕ)) (p : Place) (n : ℕ) (s : List ℕ) → Went true a b u v p → Consumes b c (take n s) → n ≡ 0 → IsAtEnd c

@@ -6,7 +6,7 @@ use mathlib.Core.List.{List}
 use lib.Dec.{eqb}
 use lib.ListN.{length, get_or}
 use lib.Ieee.{Float, nan}
-use borrow.Author.Tests.{eqb_true}
+use borrow.Author.Tests.{eqb-true}
 use Rattle.float.proofs.Tests.{by}
 use Rattle.vector.specs.Points.{from_slice_of, all_finite_of}
 use Rattle.protocol.specs.declared.Allowances.{Allowances}
@@ -91,7 +91,7 @@ simplex_few x o a =
     by (eqb (simplex_refusal_of (length x) o a).number 0)
     (λ p. rw p (
     by (all_finite_of (from_slice_of x (length x)) (length x))
-    (λ q. rw q (standing_few (simplex_record_of (from_slice_of x (length x)) (length x) o a) (simplex_limits (length x) o a (eqb_true _ _ p)).0))
+    (λ q. rw q (standing_few (simplex_record_of (from_slice_of x (length x)) (length x) o a) (simplex_limits (length x) o a (eqb-true _ _ p)).0))
     (λ q. rw q tt)))
     (λ p. rw p tt)
 
@@ -101,7 +101,7 @@ gradient_few x o a limited =
     by (eqb (gradient_refusal_of (length x) o a limited).number 0)
     (λ p. rw p (
     by (all_finite_of (from_slice_of x (length x)) (length x))
-    (λ q. rw q (standing_few (gradient_record_of (from_slice_of x (length x)) (length x) o a limited) (gradient_limits (length x) o a limited (eqb_true _ _ p))))
+    (λ q. rw q (standing_few (gradient_record_of (from_slice_of x (length x)) (length x) o a limited) (gradient_limits (length x) o a limited (eqb-true _ _ p))))
     (λ q. rw q tt)))
     (λ p. rw p tt)
 

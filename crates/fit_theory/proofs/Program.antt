@@ -2,7 +2,7 @@
 use Prim.Native.Nat.{ℕ}
 use mathlib.Core.Path.{◌≡◌, refl, sym, ap, ◌∙◌}
 use mathlib.Core.Bool.{Bool, true, false, not, cond}
-use mathlib.Core.List.{List, [], ◌∷◌, ◌++◌, append_nil, append_assoc}
+use mathlib.Core.List.{List, [], ◌∷◌, ◌++◌, append-nil, append_assoc}
 use lib.Dec.{eqb}
 use Rattle.float.proofs.Tests.{by}
 use Rattle.lines_reader.specs.declared.LineRead.{LineRead}
@@ -31,7 +31,7 @@ reading s p = fed_all (started_of s.due) p
 last : (s : State) (p : List ℕ) → cond (not (empty p)) (decided_of s (line_of s.due p)).0 [] ≡ printed s (last_line p)
 unfolding empty last_line printed
 last s [] = refl
-last s (b ∷ bs) = sym (append_nil _)
+last s (b ∷ bs) = sym (append-nil _)
 
 at_end : (s : State) (p : List ℕ) → by_bytes s (reading s p) [] ≡ printed s (last_line p)
 unfolding by_bytes

@@ -1,7 +1,7 @@
 -- What stands in a buffer after a store, after one write and another, and after digits put from the last to the first. Assumes nothing.
 use Prim.Native.Nat.{ℕ, zero, suc, ◌+◌, ◌-◌, ◌/◌, ◌%◌, ◌≤◌, ◌<◌}
 use mathlib.Core.Path.{◌≡◌, refl, sym, ap, ◌∙◌, subst}
-use mathlib.Core.List.{List, [], ◌∷◌, ◌++◌, append_assoc, append_nil}
+use mathlib.Core.List.{List, [], ◌∷◌, ◌++◌, append_assoc, append-nil}
 use native.Mathlib.Omega.{arith}
 use native.Mathlib.Numerals.{add-one, sub-one}
 use lib.ListN.{length, take, drop, set, get_or, length-append, length-set, take-append-drop}
@@ -19,7 +19,7 @@ later b a p q h e =
     rw sum (sym (drop-drop (q - p) p a) ∙ ap (λ (l : List ℕ). drop (q - p) l) e ∙ drop-drop (q - p) p b)
 
 pub wrote_none : (a : List ℕ) (at : ℕ) → Written a at a at []
-wrote_none a at = record { long = refl; place = omega arith; bytes = sym (append_nil (take at a)); rest = refl }
+wrote_none a at = record { long = refl; place = omega arith; bytes = sym (append-nil (take at a)); rest = refl }
 
 -- one byte more
 pub wrote_more : {b a : List ℕ} {at p : ℕ} {t : List ℕ} → Written b at a p t → (x : ℕ) → p < length a → Written b at (set a p x) (p + 1) (t ++ (x ∷ []))
@@ -118,7 +118,7 @@ places_end n = refl
 
 values_snoc : (xs : List Float) (x : Float) → values_text xs ++ (32 ∷ value_text x) ≡ values_text (xs ++ (x ∷ []))
 unfolding values_text
-values_snoc [] x = ap (λ (l : List ℕ). 32 ∷ l) (sym (append_nil (value_text x)))
+values_snoc [] x = ap (λ (l : List ℕ). 32 ∷ l) (sym (append-nil (value_text x)))
 values_snoc (v ∷ xs) x = ap (λ (l : List ℕ). 32 ∷ l) (append_assoc (value_text v) (values_text xs) (32 ∷ value_text x) ∙ ap (λ (l : List ℕ). value_text v ++ l) (values_snoc xs x))
 
 pub values_none : (x : List Float) → [] ≡ values_text (first 0 x)

@@ -7,7 +7,7 @@ use native.Mathlib.Omega.{arith}
 use native.Mathlib.Nat.{pow-le-pow_right}
 use lib.ListN.{length}
 use lib.Dec.{eqb, leb, ltb}
-use borrow.Author.Tests.{ltb-true, ltb-false, eqb_true, eqb-false, le-leb, lt-ltb, eq-eqb, ne_eqb}
+use borrow.Author.Tests.{ltb-true, ltb-false, eqb-true, eqb-false, le-leb, lt-ltb, eq-eqb, ne_eqb}
 use Rattle.float.proofs.Tests.{by}
 use Rattle.lines_field.specs.declared.Sum.{Sum}
 use Rattle.lines_field.specs.declared.Field.{Field}
@@ -95,7 +95,7 @@ word_law bs =
     by (eqb (length bs) 16)
     (λ l. by (below 16 (digits bs))
     (λ e.
-    let f : fit 16 0 (digits bs) ≡ true = rw (e, word_fits bs (eqb_true (length bs) 16 l) e) in
+    let f : fit 16 0 (digits bs) ≡ true = rw (e, word_fits bs (eqb-true (length bs) 16 l) e) in
     let fits : (field_of bs).hex.fits ≡ true = ap (λ (s : Sum). s.fits) (hex_is bs) ∙ sums_fits 16 0 (digits bs) (omega arith) (omega arith) ∙ f in
     let value : (field_of bs).hex.value ≡ spelt 16 0 (digits bs) = ap (λ (s : Sum). s.value) (hex_is bs) ∙ sums_value 16 0 (digits bs) (omega arith) f in
     rw (size_law bs 16 (omega arith), l, e, fits, value))
@@ -126,7 +126,7 @@ same_eq (x ∷ xs) [] e = absurd (true≢false (sym e))
 same_eq (x ∷ xs) (y ∷ ys) e =
     by (eqb x y)
     (λ p.
-    let h : x ≡ y = eqb_true x y p in
+    let h : x ≡ y = eqb-true x y p in
     let t : xs ≡ ys = same_eq xs ys (rw p at e) in
     cc)
     (λ p. absurd (true≢false (sym (rw p at e))))
@@ -172,7 +172,7 @@ unfolding spells_of
 spells_law bs lit k t l s h b =
     by (eqb (length bs) k)
     (λ p.
-    let len : length bs ≡ k = eqb_true (length bs) k p in
+    let len : length bs ≡ k = eqb-true (length bs) k p in
     by (below 256 bs)
     (λ e.
     let f : fit 256 0 bs ≡ true = rw (e, text_fits bs (omega arith) e) in
@@ -181,7 +181,7 @@ spells_law bs lit k t l s h b =
     rw (size_law bs k (omega arith), p, fits, value)
     (by (eqb (spelt 256 0 bs) t)
     (λ q.
-    let one : bs ≡ lit = (spelt_one 0 0 bs lit (len ∙ sym l) e b (eqb_true (spelt 256 0 bs) t q ∙ sym s)).rest in
+    let one : bs ≡ lit = (spelt_one 0 0 bs lit (len ∙ sym l) e b (eqb-true (spelt 256 0 bs) t q ∙ sym s)).rest in
     q ∙ sym (ap (λ (x : List ℕ). same bs x) (sym one) ∙ same_self bs))
     (λ q. q ∙ sym (by (same bs lit)
     (λ y. absurd (eqb-false (spelt 256 0 bs) t q (ap (λ (x : List ℕ). spelt 256 0 x) (same_eq bs lit y) ∙ s)))

@@ -2,7 +2,7 @@
 use Prim.Native.Nat.{ℕ, zero, suc, ◌+◌, ◌*◌, ◌/◌, ◌%◌, ◌^◌, ◌≤◌, ◌<◌}
 use mathlib.Core.Path.{◌≡◌, refl, sym, ap, ap₂, ◌∙◌}
 use mathlib.Core.Bool.{Bool, true, false, cond, true≢false}
-use mathlib.Core.List.{List, [], ◌∷◌, ◌++◌, map, append_assoc, append_nil}
+use mathlib.Core.List.{List, [], ◌∷◌, ◌++◌, map, append_assoc, append-nil}
 use mathlib.Core.Option.{some}
 use native.Mathlib.Omega.{arith}
 use native.Mathlib.Numerals.{add-one}
@@ -41,7 +41,7 @@ clean (b ∷ bs) = cond (eqb b 32) false (clean bs)
 
 fields_on : (g f rest : List ℕ) → clean f ≡ true → fields_from g (f ++ rest) ≡ fields_from (g ++ f) rest
 unfolding fields_from clean
-fields_on g [] rest e = ap (λ (l : List ℕ). fields_from l rest) (sym (append_nil g))
+fields_on g [] rest e = ap (λ (l : List ℕ). fields_from l rest) (sym (append-nil g))
 fields_on g (b ∷ f) rest e =
     by (eqb b 32)
     (λ p. absurd (never_true (rw p at e)))
@@ -290,7 +290,7 @@ end_split r =
     ∙ ap (λ (l : List (List ℕ)). decimal_text r.fevals ∷ l)
     (next_split (decimal_text r.gevals) (value_text r.f) x (value_clean r.f)
     ∙ ap (λ (l : List (List ℕ)). decimal_text r.gevals ∷ l)
-    (ap (λ (l : List ℕ). fields_from (value_text r.f) l) (append_nil (values_text r.x)) ∙ values_split (value_text r.f) r.x))))))
+    (ap (λ (l : List ℕ). fields_from (value_text r.f) l) (append-nil (values_text r.x)) ∙ values_split (value_text r.f) r.x))))))
 
 end_back : (r : Result) → Printable r → end_line (end_before r []) ≡ some r
 unfolding end_fields result_in

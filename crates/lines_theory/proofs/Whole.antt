@@ -2,7 +2,7 @@
 use Prim.Native.Nat.{ℕ, zero, suc, ◌+◌, ◌≤◌, ◌<◌}
 use mathlib.Core.Path.{◌≡◌, refl, sym, ap, ◌∙◌}
 use mathlib.Core.Bool.{Bool, true, false, ◌&&◌, not}
-use mathlib.Core.List.{List, [], ◌∷◌, ◌++◌, append_assoc, append_nil}
+use mathlib.Core.List.{List, [], ◌∷◌, ◌++◌, append_assoc, append-nil}
 use native.Mathlib.Omega.{arith}
 use native.Mathlib.Numerals.{add-one}
 use lib.ListN.{length, set, length-append, get_or-eq_default}
@@ -145,7 +145,7 @@ emptied i (f ∷ fs) e = emptied (i + 1) fs (alone_of i (length f))
 
 take_all : (form : ℕ) (vs : List Reading) (e : Bool) (fs : List (List ℕ)) → takes (held form vs e) fs ≡ held form (vs ++ readings_from form (length vs) fs) (emptied (length vs) fs e)
 unfolding takes readings_from emptied
-take_all form vs e [] = rw (append_nil vs)
+take_all form vs e [] = rw (append-nil vs)
 take_all form vs e (f ∷ fs) =
     let v = field_as (shape_at_of form (length vs)) f in
     ap (λ (l : LineRead). takes l fs) (take_one form vs e f)
@@ -174,7 +174,7 @@ none_length (a ∷ f) = ne_eqb (suc (length f)) 0 (λ e. omega arith)
 
 empty_is : (f bs : List ℕ) (e : Bool) → emptied 0 (fields_from f bs) e ≡ empty (f ++ bs)
 unfolding emptied fields_from
-empty_is f [] e = none_length f ∙ ap (λ (l : List ℕ). empty l) (sym (append_nil f))
+empty_is f [] e = none_length f ∙ ap (λ (l : List ℕ). empty l) (sym (append-nil f))
 empty_is f (b ∷ bs) e =
     by (eqb b 32)
     (λ p. rw p (empty_later 1 [] bs (alone_of 0 (length f)) (omega arith) ∙ sym (none_some f b bs)))

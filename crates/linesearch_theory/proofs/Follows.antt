@@ -5,7 +5,7 @@ use mathlib.Core.Bool.{Bool, true, false}
 use mathlib.Core.Option.{none}
 use native.Mathlib.Nat.{sub-zero}
 use native.Mathlib.Omega.{arith}
-use borrow.Author.Tests.{eqb_true, eqb-false}
+use borrow.Author.Tests.{eqb-true, eqb-false}
 use lib.Dec.{eqb}
 use lib.Ieee.{Float}
 use Rattle.float.specs.Values.{min_of}
@@ -39,8 +39,8 @@ module _ (read : Float → Float) (fixed : Fixed) (l : Line) where
     where
       go : (b : Bool) → eqb s.phase asks_value ≡ b → (c : Bool) → eqb s.phase asks_gradient ≡ c
           → to_do read fixed l s ≡ query (kind_of s) (first fixed.n (probe_of fixed l s)) (λ w. to_do read fixed l (answered read fixed l s w))
-      go true e c f = valuing read fixed l s s.phase (eqb_true s.phase asks_value e) z.trials
-      go false e true f = grading read fixed l s s.phase (eqb_true s.phase asks_gradient f) z.trials
+      go true e c f = valuing read fixed l s s.phase (eqb-true s.phase asks_value e) z.trials
+      go false e true f = grading read fixed l s s.phase (eqb-true s.phase asks_gradient f) z.trials
       go false e false f =
           let last = third s.phase z.least i (eqb-false s.phase asks_value e) (eqb-false s.phase asks_gradient f) in
           differing read fixed l s s.phase last z.trials z.diff (z.asked last)

@@ -4,7 +4,7 @@ use mathlib.Core.Path.{◌≡◌}
 use mathlib.Core.Bool.{Bool, true, false}
 use lib.Dec.{leb, ltb, eqb}
 use lib.Ieee.{Float, lt, le}
-use borrow.Author.Tests.{eqb_true}
+use borrow.Author.Tests.{eqb-true}
 use Rattle.float.proofs.Tests.{by}
 use Rattle.neldermead.specs.declared.Fixed.{Fixed}
 use Rattle.neldermead.specs.Step.{building, reflecting, expanding, contracting_outside, contracting_inside, shrinking, by_simplex_iterations, by_simplex_fevals, reason_of}
@@ -42,19 +42,19 @@ module _ (phase at n : ℕ) (f best second worst reflected : Float) where
   unfolding outcome_of among_of taken_of reflection_of
   outcome_cases P k =
       by (eqb phase building)
-      (λ e. rw e (by (ltb at n) (λ m. rw m (k.builds (eqb_true _ _ e) m)) (λ m. rw m (k.completes (eqb_true _ _ e) m))))
+      (λ e. rw e (by (ltb at n) (λ m. rw m (k.builds (eqb-true _ _ e) m)) (λ m. rw m (k.completes (eqb-true _ _ e) m))))
       (λ a. rw a (by (eqb phase reflecting)
-      (λ e. rw e (by (lt f best) (λ m. rw m (k.expands (eqb_true _ _ e) m))
-      (λ m. rw m (by (lt f second) (λ o. rw o (k.reflects (eqb_true _ _ e) m o))
-      (λ o. rw o (by (lt f worst) (λ q. rw q (k.contracts (eqb_true _ _ e) m o q)) (λ q. rw q (k.retreats (eqb_true _ _ e) m o q))))))))
+      (λ e. rw e (by (lt f best) (λ m. rw m (k.expands (eqb-true _ _ e) m))
+      (λ m. rw m (by (lt f second) (λ o. rw o (k.reflects (eqb-true _ _ e) m o))
+      (λ o. rw o (by (lt f worst) (λ q. rw q (k.contracts (eqb-true _ _ e) m o q)) (λ q. rw q (k.retreats (eqb-true _ _ e) m o q))))))))
       (λ b. rw b (by (eqb phase expanding)
-      (λ e. rw e (by (lt f reflected) (λ m. rw m (k.expanded (eqb_true _ _ e) m)) (λ m. rw m (k.missed (eqb_true _ _ e) m))))
+      (λ e. rw e (by (lt f reflected) (λ m. rw m (k.expanded (eqb-true _ _ e) m)) (λ m. rw m (k.missed (eqb-true _ _ e) m))))
       (λ c. rw c (by (eqb phase contracting_outside)
-      (λ e. rw e (by (le f reflected) (λ m. rw m (k.outside (eqb_true _ _ e) m)) (λ m. rw m (k.failed (eqb_true _ _ e) m))))
+      (λ e. rw e (by (le f reflected) (λ m. rw m (k.outside (eqb-true _ _ e) m)) (λ m. rw m (k.failed (eqb-true _ _ e) m))))
       (λ d. rw d (by (eqb phase contracting_inside)
-      (λ e. rw e (by (lt f worst) (λ m. rw m (k.inside (eqb_true _ _ e) m)) (λ m. rw m (k.lost (eqb_true _ _ e) m))))
+      (λ e. rw e (by (lt f worst) (λ m. rw m (k.inside (eqb-true _ _ e) m)) (λ m. rw m (k.lost (eqb-true _ _ e) m))))
       (λ g. rw g (by (eqb phase shrinking)
-      (λ e. rw e (by (ltb at n) (λ m. rw m (k.draws (eqb_true _ _ e) m)) (λ m. rw m (k.drawn (eqb_true _ _ e) m))))
+      (λ e. rw e (by (ltb at n) (λ m. rw m (k.draws (eqb-true _ _ e) m)) (λ m. rw m (k.drawn (eqb-true _ _ e) m))))
       (λ h. rw h (k.ended (record { not_building = a; not_reflecting = b; not_expanding = c; not_outside = d; not_inside = g; not_shrinking = h })))))))))))))
 
 module _ (fit : Fixed) (done : Bool) (f : Float) (rounds runs fevals : ℕ) where

@@ -5,7 +5,7 @@ use native.Mathlib.Omega.{arith}
 use mathlib.Core.Path.{◌≡◌, refl, sym, ◌∙◌, ap}
 use mathlib.Core.Bool.{Bool, true, false, cond}
 use mathlib.Core.List.{List, [], ◌∷◌, ◌++◌}
-use borrow.Author.Tests.{ltb-true, ltb-false, eqb_true, eqb-false}
+use borrow.Author.Tests.{ltb-true, ltb-false, eqb-true, eqb-false}
 use lib.Dec.{ltb, eqb, eqb-suc-zero}
 use lib.ListN.{length, set, drop, length-set, drop_of_length-le}
 use lib.Seq.{drop-cons, get_or-set_same, get_or-set_other}
@@ -61,7 +61,7 @@ module _ (fit : Fixed) (l : FitLimits) (allows : SimplexAllows fit l) (v : ℕ) 
     where
       go : (b : Bool) → eqb s.at 0 ≡ b → seed ≡ cond b s.x (vertex_at s.v 0).x
       go true e =
-          let z : s.at ≡ 0 = eqb_true s.at 0 e in
+          let z : s.at ≡ 0 = eqb-true s.at 0 e in
           rw z (ap (λ (u : Vertex). u.x) (get_or-set_same s.v 0 new no_vertex (omega (arith, shape.many))))
       go false e = ap (λ (u : Vertex). u.x) (get_or-set_other s.v s.at 0 new no_vertex (λ z. eqb-false s.at 0 e (sym z)))
 

@@ -4,7 +4,7 @@ use native.Mathlib.Omega.{arith}
 use mathlib.Core.Path.{◌≡◌, refl, sym, ◌∙◌, ap, subst}
 use mathlib.Core.Bool.{Bool, true, false, cond}
 use mathlib.Core.List.{List}
-use borrow.Author.Tests.{ltb-true, eqb_true, eqb-false}
+use borrow.Author.Tests.{ltb-true, eqb-true, eqb-false}
 use lib.Dec.{leb, ltb, eqb}
 use lib.ListN.{length, length-set, set, replicate, get_or-replicate}
 use lib.Seq.{get_or-set_same, get_or-set_other}
@@ -76,7 +76,7 @@ module _ (fit : Fixed) (P : List Float → Type 0) (positive : 1 ≤ fit.n) (sma
       go : (j : ℕ) → j < 17 → (b : Bool) → eqb j i ≡ b → P (vertex_at (set s.v i u) j).x
       go j l true e =
           let m = h.many in
-          rw (eqb_true j i e, get_or-set_same s.v i u no_vertex (omega (arith, eqb_true j i e))) p
+          rw (eqb-true j i e, get_or-set_same s.v i u no_vertex (omega (arith, eqb-true j i e))) p
       go j l false e = rw (get_or-set_other s.v i j u no_vertex (eqb-false j i e)) (h.points.vertices j l)
 
   ordered_last : (s : Simplex) → Last s → Last (ordered_of fit.n s)

@@ -1,6 +1,6 @@
 -- The phases follow the text of Nelder and Mead's method: `simplex_steps_lem`. Assumes nothing.
 use mathlib.Core.Path.{◌≡◌, refl, ◌∙◌, ap, fun_ext}
-use mathlib.Core.List.{List, [], ◌∷◌, ◌++◌, append_nil}
+use mathlib.Core.List.{List, [], ◌∷◌, ◌++◌, append-nil}
 use mathlib.Core.Bool.{Bool, true, false, not, cond}
 use Prim.Native.Nat.{ℕ, ◌-◌}
 use lib.Dec.{leb, eqb}
@@ -50,12 +50,12 @@ rest_text us u xs K =
 
 build_text : (p : SimplexPosition) (us : List Vertex) (xs : List (List Float)) → ask_vertices xs >>= (λ ws. built p (us ++ ws)) ≡ words (build_on p us xs)
 unfolding ◌>>=◌ ask_vertices
-build_text p us [] = ap (built p) (append_nil us)
+build_text p us [] = ap (built p) (append-nil us)
 build_text p us (x ∷ xs) = refl
 
 shrink_text : (p : SimplexPosition) (us : List Vertex) (xs : List (List Float)) → ask_vertices xs >>= (λ ws. finish (at_head (arrive p (vertex p 0 ∷ us ++ ws)))) ≡ words (shrink_on p us xs)
 unfolding ◌>>=◌ ask_vertices
-shrink_text p us [] = ap (λ (ws : List Vertex). finish (at_head (arrive p (vertex p 0 ∷ ws)))) (append_nil us)
+shrink_text p us [] = ap (λ (ws : List Vertex). finish (at_head (arrive p (vertex p 0 ∷ ws)))) (append-nil us)
 shrink_text p us (x ∷ xs) = refl
 
 reflect_text : (p : SimplexPosition) (r : Vertex) → reflected p r ≡ words (reflect_on p r)

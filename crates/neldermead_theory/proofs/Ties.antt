@@ -8,7 +8,7 @@ use lib.Dec.{eqb}
 use lib.ListN.{length, set}
 use lib.Seq.{get_or-set_same, get_or-set_other}
 use lib.Ieee.{Float, nan, lt}
-use borrow.Author.Tests.{eqb_true, eqb-false}
+use borrow.Author.Tests.{eqb-true, eqb-false}
 use Rattle.vector.specs.Loops.{at}
 use Rattle.vector.specs.Points.{quotient_of, towards_of, shrunk_of}
 use Rattle.vector.proofs.First.{point_laws}
@@ -57,7 +57,7 @@ module _ (n : ℕ) where
   set_zeros v i u long z y j h = go (eqb j i) refl
     where
       go : (b : Bool) → eqb j i ≡ b → ZeroFrom n (vertex_at (set v i u) j).x
-      go true e = rw (eqb_true j i e, get_or-set_same v i u no_vertex (omega (arith, eqb_true j i e))) y
+      go true e = rw (eqb-true j i e, get_or-set_same v i u no_vertex (omega (arith, eqb-true j i e))) y
       go false e = rw (get_or-set_other v i j u no_vertex (eqb-false j i e)) (z j h)
 
   better_zeros : (u b : Vertex) → ZeroFrom n u.x → ZeroFrom n b.x → ZeroFrom n (better u b).x

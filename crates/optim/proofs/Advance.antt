@@ -6,7 +6,7 @@ use mathlib.Core.List.{List}
 use lib.Dec.{eqb}
 use lib.ListN.{length, get_or}
 use lib.Ieee.{Float, nan}
-use borrow.Author.Tests.{eqb_true, eq-eqb, ne_eqb}
+use borrow.Author.Tests.{eqb-true, eq-eqb, ne_eqb}
 use Rattle.vector.specs.Points.{from_slice_of}
 use Rattle.objective.specs.declared.Differences.{Differences}
 use Rattle.objective.specs.Step.{told_of}
@@ -144,7 +144,7 @@ advance r words = at (eqb r.job simplex_mark) (eqb r.job search_mark) (gradient_
   where
     at : (b c d e : Bool) → eqb r.job simplex_mark ≡ b → eqb r.job search_mark ≡ c → gradient_job_of r.job ≡ d → gradient_due_of r ≡ e
         → with_counts (moved_of r words) (counted_of r) ≡ advanced_of r words
-    at true c d true p q s t = absurd (true≢false (sym t ∙ due_simplex r (eqb_true _ _ p)))
+    at true c d true p q s t = absurd (true≢false (sym t ∙ due_simplex r (eqb-true _ _ p)))
     at true c d false p q s t = rw (p, t)
     at false true d true p q s t = rw (p, q, t)
     at false true d false p q s t = rw (p, q, t)

@@ -4,7 +4,7 @@ use mathlib.Core.Path.{◌≡◌, refl}
 use mathlib.Core.Bool.{Bool, true, false}
 use native.Mathlib.Omega.{arith}
 use lib.Dec.{eqb}
-use borrow.Author.Tests.{leb-true, eqb_true, ne_eqb}
+use borrow.Author.Tests.{leb-true, eqb-true, ne_eqb}
 use Rattle.quasinewton_model.specs.declared.Model.{Model}
 use Rattle.quasinewton_record.specs.declared.Descent.{Descent}
 use Rattle.quasinewton_record.specs.declared.Fixed.{Fixed}
@@ -32,4 +32,4 @@ module _ (fixed : Fixed) (q : Descent) (asks : asks_of q ≡ true) where
       go true e = rw (e, earlier q.search.phase 4 (leb-true _ _ (rw e at asks)) (omega arith), earlier q.search.phase 5 (leb-true _ _ (rw e at asks)) (omega arith), at_search)
         where
           at_search : eqb q.phase 13 ≡ false
-          at_search = ne_eqb _ _ (λ (p : q.phase ≡ 13). omega (arith, p, eqb_true q.phase searching e))
+          at_search = ne_eqb _ _ (λ (p : q.phase ≡ 13). omega (arith, p, eqb-true q.phase searching e))

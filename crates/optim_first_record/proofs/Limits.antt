@@ -5,7 +5,7 @@ use mathlib.Core.Path.{◌≡◌, refl, subst}
 use mathlib.Core.Bool.{Bool, true, false, not, cond}
 use native.Mathlib.Omega.{arith}
 use lib.Dec.{T, eqb, ltb}
-use borrow.Author.Tests.{ltb-false, eqb_true, eqb-false}
+use borrow.Author.Tests.{ltb-false, eqb-true, eqb-false}
 use Rattle.protocol.specs.declared.SimplexOptions.{SimplexOptions}
 use Rattle.protocol.specs.declared.WolfeOptions.{WolfeOptions}
 use Rattle.protocol.specs.declared.GradientOptions.{GradientOptions}
@@ -67,11 +67,11 @@ same_counts n dcount gcount e = none (eqb n 0) e
     eleven q = omega arith
 
     slopes : (b : Bool) → eqb gcount n ≡ b → (cond (not b) (refusal 11 0) no_refusal).number ≡ 0 → gcount ≡ n
-    slopes true h z = eqb_true _ _ h
+    slopes true h z = eqb-true _ _ h
     slopes false h z = absurd (eleven z)
 
     along : (b : Bool) → eqb dcount n ≡ b → (cond (not b) (refusal 10 0) (cond (not (eqb gcount n)) (refusal 11 0) no_refusal)).number ≡ 0 → (dcount ≡ n) × (gcount ≡ n)
-    along true h z = (eqb_true _ _ h, slopes (eqb gcount n) refl z)
+    along true h z = (eqb-true _ _ h, slopes (eqb gcount n) refl z)
     along false h z = absurd (ten z)
 
     none : (b : Bool) → (cond b (refusal 9 0) (cond (not (eqb dcount n)) (refusal 10 0) (cond (not (eqb gcount n)) (refusal 11 0) no_refusal))).number ≡ 0

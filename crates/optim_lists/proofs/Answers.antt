@@ -7,7 +7,7 @@ use native.Mathlib.Omega.{arith}
 use lib.Dec.{eqb}
 use lib.ListN.{length}
 use lib.Ieee.{Float}
-use borrow.Author.Tests.{eqb_true, eq-eqb}
+use borrow.Author.Tests.{eqb-true, eq-eqb}
 use Rattle.float.proofs.Tests.{either}
 use Rattle.protocol.specs.Protocol.{Reply, refused}
 use Rattle.optim_record.specs.declared.Record.{Record}
@@ -77,7 +77,7 @@ module _ (l : Lists) (number kind : ℕ) (words : List Float) where
     by_move = go (eqb B.1.accepted (mark l.marks place.accepted)) refl
       where
         go : (b : Bool) → eqb B.1.accepted (mark l.marks place.accepted) ≡ b → P (cond b l (lists_of B.1))
-        go true e = stays (unmoved (record_of l) number kind words (eqb_true _ _ e ∙ sym (accepted_read l)))
+        go true e = stays (unmoved (record_of l) number kind words (eqb-true _ _ e ∙ sym (accepted_read l)))
         go false e = moves
 
   pub answer_leaves : formed_of l ≡ true → record_of (answered_of l number kind words).1 ≡ B.1

@@ -1,7 +1,7 @@
 -- A list is what stands at its places, and a loop that sets each place has made it. Assumes nothing.
 use Prim.Native.Nat.{ℕ, zero, suc, ◌+◌, ◌≤◌, ◌<◌}
 use mathlib.Core.Path.{◌≡◌, refl, sym, ap, ◌∙◌}
-use mathlib.Core.List.{List, [], ◌∷◌, ◌++◌, map, append_nil}
+use mathlib.Core.List.{List, [], ◌∷◌, ◌++◌, map, append-nil}
 use native.Mathlib.Nat.{le_refl}
 use native.Mathlib.Omega.{arith}
 use lib.ListN.{length, get_or, set, drop, drop_of_length-le}
@@ -75,7 +75,7 @@ set_front g z (suc k) h =
     ∙ sym (append_snoc (upto g k) (g k) (drop (suc k) z))
 
 set_places : {A : Type 0} (g : ℕ → A) (z : List A) (n : ℕ) → length z ≡ n → set_of g z n ≡ upto g n
-set_places g z n e = set_front g z n (omega (arith, e)) ∙ ap (λ l. upto g n ++ l) (drop_of_length-le z {i = n} (omega (arith, e))) ∙ append_nil (upto g n)
+set_places g z n e = set_front g z n (omega (arith, e)) ∙ ap (λ l. upto g n ++ l) (drop_of_length-le z {i = n} (omega (arith, e))) ∙ append-nil (upto g n)
 
 -- a loop over z has set the first i of its n places, each to what g has for it
 pub record Setting {A : Type 0} (n : ℕ) (g : ℕ → A) (z s : List A) (i : ℕ) : Type 0 where

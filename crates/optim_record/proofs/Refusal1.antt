@@ -6,7 +6,7 @@ use mathlib.Core.Bool.{Bool, true, false, cond, true≢false}
 use mathlib.Core.Logic.{inl, inr, ⊎_elim}
 use mathlib.Core.List.{[], ◌∷◌}
 use lib.Dec.{eqb, leb}
-use borrow.Author.Tests.{leb-true, eqb_true, le-leb, eq-eqb, ne_eqb}
+use borrow.Author.Tests.{leb-true, eqb-true, le-leb, eq-eqb, ne_eqb}
 use Rattle.optim_record.specs.declared.Record.{Record}
 use Rattle.optim_record.specs.Record.{gradient_job_of, valid_simplex_of, valid_search_of, valid_descent_of, valid_of}
 use Rattle.protocol.specs.Protocol.{simplex_mark, bfgs_mark, lbfgs_mark, search_mark, differences_mark}
@@ -49,11 +49,11 @@ module _ (r : Record) where
       go : (a : Bool) → eqb r.job simplex_mark ≡ a → (b : Bool) → eqb r.job search_mark ≡ b → (c : Bool) → eqb r.job bfgs_mark ≡ c → (d : Bool) → eqb r.job lbfgs_mark ≡ d
           → (f : Bool) → eqb r.job differences_mark ≡ f
           → cond a (valid_simplex_of r) (cond b (valid_search_of r) (cond (cond c true d) (valid_descent_of r) (cond f (leb r.diff.at r.n) false))) ≡ true → KnownJob
-      go true i b j c k d l f m e = inl (eqb_true _ _ i)
-      go false i true j c k d l f m e = inr (inr (inr (inl (eqb_true _ _ j))))
-      go false i false j true k d l f m e = inr (inl (eqb_true _ _ k))
-      go false i false j false k true l f m e = inr (inr (inl (eqb_true _ _ l)))
-      go false i false j false k false l true m e = inr (inr (inr (inr (inl (eqb_true _ _ m)))))
+      go true i b j c k d l f m e = inl (eqb-true _ _ i)
+      go false i true j c k d l f m e = inr (inr (inr (inl (eqb-true _ _ j))))
+      go false i false j true k d l f m e = inr (inl (eqb-true _ _ k))
+      go false i false j false k true l f m e = inr (inr (inl (eqb-true _ _ l)))
+      go false i false j false k false l true m e = inr (inr (inr (inr (inl (eqb-true _ _ m)))))
       go false i false j false k false l false m e = absurd (true≢false (sym e))
 
   -- ---- in range, job by job

@@ -6,7 +6,7 @@ use mathlib.Core.Bool.{Bool, true, false, not, cond, true≢false}
 use mathlib.Core.Logic.{◌⊎◌, inl, inr, ⊎_elim, ◌↔◌}
 use mathlib.Core.List.{List, [], ◌∷◌}
 use lib.Dec.{eqb, ltb, leb}
-use borrow.Author.Tests.{ltb-false, leb-true, eqb_true, eqb-false, not-true, not-false, le-ltb, le-leb, eq-eqb, ne_eqb}
+use borrow.Author.Tests.{ltb-false, leb-true, eqb-true, eqb-false, not-true, not-false, le-ltb, le-leb, eq-eqb, ne_eqb}
 use Rattle.quasinewton_record.specs.declared.Descent.{Descent}
 use Rattle.optim_record.specs.declared.Record.{Record}
 use Rattle.optim_record.specs.Record.{no_limit, gradient_job_of, valid_simplex_of, valid_search_part_of, valid_search_of, known_refusal_of, valid_ending_of, valid_options_of, valid_model_of, valid_descent_of, valid_of}
@@ -38,11 +38,11 @@ some : (k : ℕ) → (eqb k 0 ≡ false) ↔ (0 < k)
 some k = (λ e. omega (arith, eqb-false k 0 e), λ h. ne_eqb k 0 (λ e. omega arith))
 
 equal : (a b : ℕ) → (eqb a b ≡ true) ↔ (a ≡ b)
-equal a b = (eqb_true a b, eq-eqb a b)
+equal a b = (eqb-true a b, eq-eqb a b)
 
 -- the last of a list
 last : (a b : ℕ) → (eqb a b ≡ true) ↔ OneOf a (b ∷ [])
-last a b = (λ e. inl (eqb_true a b e), λ h. ⊎_elim (eq-eqb a b) (λ n. absurd n) h)
+last a b = (λ e. inl (eqb-true a b e), λ h. ⊎_elim (eq-eqb a b) (λ n. absurd n) h)
 
 -- ---- numbers that are none of a list
 
@@ -69,9 +69,9 @@ module _ (k d : ℕ) where
       up h = go (eqb d 1) refl (eqb d 2) refl (eqb d 3) refl
         where
           go : (a : Bool) → eqb d 1 ≡ a → (b : Bool) → eqb d 2 ≡ b → (c : Bool) → eqb d 3 ≡ c → OneOf d (1 ∷ 2 ∷ 3 ∷ 4 ∷ [])
-          go true i b j c l = inl (eqb_true d 1 i)
-          go false i true j c l = inr (inl (eqb_true d 2 j))
-          go false i false j true l = inr (inr (inl (eqb_true d 3 l)))
+          go true i b j c l = inl (eqb-true d 1 i)
+          go false i true j c l = inr (inl (eqb-true d 2 j))
+          go false i false j true l = inr (inr (inl (eqb-true d 3 l)))
           go false i false j false l = inr (inr (inr (inl (omega (arith, h.0, h.1, eqb-false d 1 i, eqb-false d 2 j, eqb-false d 3 l)))))
 
       down : OneOf d (1 ∷ 2 ∷ 3 ∷ 4 ∷ []) → (0 < d) × (d ≤ 4)
@@ -100,8 +100,8 @@ module _ (k d : ℕ) where
       by a b = cond a (cond (eqb d 1) true (eqb d 2)) (cond b (cond (eqb d 0) false (leb d 4)) (cond (not (eqb d 0)) false numbers))
 
       there : (a : Bool) → eqb k 5 ≡ a → (b : Bool) → eqb k 12 ≡ b → by a b ≡ true → EndingMark k d
-      there true i b j e = inl (eqb_true k 5 i, details.0 e)
-      there false i true j e = inr (inl (eqb_true k 12 j, to_four.0 e))
+      there true i b j e = inl (eqb-true k 5 i, details.0 e)
+      there false i true j e = inr (inl (eqb-true k 12 j, to_four.0 e))
       there false i false j e = inr (inr (others.0 e))
 
       back : EndingMark k d → known_refusal_of k d ≡ true
@@ -114,7 +114,7 @@ unfolding valid_ending_of
 ending_part d = go (eqb d.phase 12) refl
   where
     go : (b : Bool) → eqb d.phase 12 ≡ b → (cond b (known_refusal_of d.number d.detail) true ≡ true) ↔ (d.phase ≡ 12 → EndingMark d.number d.detail)
-    go true i = (λ e p. (known d.number d.detail).0 e, λ h. (known d.number d.detail).1 (h (eqb_true _ _ i)))
+    go true i = (λ e p. (known d.number d.detail).0 e, λ h. (known d.number d.detail).1 (h (eqb-true _ _ i)))
     go false i = (λ e p. absurd (eqb-false _ _ i p), λ h. refl)
 
 -- ---- each part

@@ -8,7 +8,7 @@ use native.Mathlib.Omega.{arith}
 use lib.Dec.{T, eqb}
 use lib.ListN.{length}
 use lib.Ieee.{Float}
-use borrow.Author.Tests.{eqb_true, eqb-false, ne_eqb}
+use borrow.Author.Tests.{eqb-true, eqb-false, ne_eqb}
 use Rattle.quasinewton_model.specs.Step.{ModelInRange}
 use Rattle.optim_record.specs.declared.Record.{Record}
 use Rattle.optim_record.specs.Record.{gradient_job_of, valid_of, Other, Ranges, Open, Stands}
@@ -35,8 +35,8 @@ model_ranges r h g = go (eqb r.job bfgs_mark) refl g
     dense j = record { most = λ l. absurd (true≢false (sym l ∙ h.marks.dense j)); within = λ l. absurd (true≢false (sym l ∙ h.marks.dense j)) }
 
     go : (b : Bool) → eqb r.job bfgs_mark ≡ b → cond b true (eqb r.job lbfgs_mark) ≡ true → ModelInRange r.model
-    go true e i = dense (eqb_true _ _ e)
-    go false e i = limited (eqb_true _ _ i)
+    go true e i = dense (eqb-true _ _ e)
+    go false e i = limited (eqb-true _ _ i)
 
 -- none of the other jobs in range is that of differences
 other_job : (r : Record) → InRange r → Other r → r.job ≡ differences_mark
@@ -79,8 +79,8 @@ stands r h = record { few = h.few; numbers = omega (arith, h.numbers); coordinat
 -- an answer that suits has as many words as were asked for
 pub one_word : (r : Record) (kind : ℕ) (words : List Float) → gradient_due_of r ≡ false → suits_of r kind (length words) ≡ true → length words ≡ 1
 unfolding suits_of
-one_word r kind words g e = eqb_true (length words) 1 (passed (not (eqb kind 86)) (eqb (length words) 1) (rw g at e)).1
+one_word r kind words g e = eqb-true (length words) 1 (passed (not (eqb kind 86)) (eqb (length words) 1) (rw g at e)).1
 
 pub n_words : (r : Record) (kind : ℕ) (words : List Float) → gradient_due_of r ≡ true → suits_of r kind (length words) ≡ true → length words ≡ r.n
 unfolding suits_of
-n_words r kind words g e = eqb_true (length words) r.n (passed (not (eqb kind 71)) (eqb (length words) r.n) (rw g at e)).1
+n_words r kind words g e = eqb-true (length words) r.n (passed (not (eqb kind 71)) (eqb (length words) r.n) (rw g at e)).1

@@ -6,7 +6,7 @@ use mathlib.Core.Path.{◌≡◌, refl, sym, ◌∙◌, ap, subst}
 use mathlib.Core.Logic.{◌⊎◌, inr}
 use mathlib.Core.Bool.{Bool, true, false, not, cond, true≢false}
 use mathlib.Core.List.{List}
-use borrow.Author.Tests.{le-ltb, le-leb, lt-leb, leb-false, eqb_true, eqb-false}
+use borrow.Author.Tests.{le-ltb, le-leb, lt-leb, leb-false, eqb-true, eqb-false}
 use lib.Dec.{leb, eqb}
 use lib.Ieee.{Float}
 use Rattle.vector.specs.Lists.{first}
@@ -123,9 +123,9 @@ converged_as p h = go (eqb p 5) refl (eqb p 6) refl (eqb p 7) refl
     others false false false = refl
 
     go : (a : Bool) → eqb p 5 ≡ a → (b : Bool) → eqb p 6 ≡ b → (c : Bool) → eqb p 7 ≡ c → descent_converged_of p ≡ converges (reason_of p)
-    go true i b j c k = at 5 refl (eqb_true p 5 i)
-    go false i true j c k = at 6 refl (eqb_true p 6 j)
-    go false i false j true k = at 7 refl (eqb_true p 7 k)
+    go true i b j c k = at 5 refl (eqb-true p 5 i)
+    go false i true j c k = at 6 refl (eqb-true p 6 j)
+    go false i false j true k = at 7 refl (eqb-true p 7 k)
     go false i false j false k =
         rw (le-ltb p 5 h, lt-leb p 7 (omega (arith, eqb-false p 5 i, eqb-false p 6 j, eqb-false p 7 k)), i, j, k) (others (eqb p 8) (eqb p 9) (eqb p 10))
 
@@ -173,7 +173,7 @@ module _ (r : Record) (S : Sound r) where
     where
       go : (b : Bool) → eqb r.descent.phase searching ≡ b
           → cond b (leb r.descent.search.phase asks_difference) (leb r.descent.phase quasinewton.first_differences) ≡ false → 5 ≤ r.descent.phase
-      go true i f = absurd (true≢false (sym (le-leb _ _ (S.stands.asking (eqb_true _ _ i))) ∙ f))
+      go true i f = absurd (true≢false (sym (le-leb _ _ (S.stands.asking (eqb-true _ _ i))) ∙ f))
       go false i f = omega (arith, eqb-false r.descent.phase searching i, leb-false r.descent.phase quasinewton.first_differences f)
 
   -- the fit has ended

@@ -7,7 +7,7 @@ use mathlib.Core.Path.{◌≡◌, refl, sym, ◌∙◌, ap, subst}
 use mathlib.Core.Logic.{◌⊎◌, inl, inr}
 use mathlib.Core.Bool.{Bool, true, false, cond}
 use mathlib.Core.List.{List}
-use borrow.Author.Tests.{ltb-true, ltb-false, lt-ltb, le-ltb, ne_eqb, eqb_true, eqb-false}
+use borrow.Author.Tests.{ltb-true, ltb-false, lt-ltb, le-ltb, ne_eqb, eqb-true, eqb-false}
 use lib.Dec.{eqb, ltb}
 use lib.ListN.{length, get_or}
 use lib.Ieee.{Float, nan}
@@ -143,7 +143,7 @@ module _ (r : Record) (S : Sound r) where
       }
 
   ended_by : eqb r.diff.at r.n ≡ true → job.Over differences_ending Tied r (text_of r)
-  ended_by e = record { result = _; rest = (follows as_told).ends r.n r.diff (eqb_true _ _ e); over = over_as r S ∙ e }
+  ended_by e = record { result = _; rest = (follows as_told).ends r.n r.diff (eqb-true _ _ e); over = over_as r S ∙ e }
 
   state : job.Asking differences_ending Tied r (text_of r) ⊎ job.Over differences_ending Tied r (text_of r)
   state = go (eqb r.diff.at r.n) refl

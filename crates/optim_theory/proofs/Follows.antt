@@ -7,7 +7,7 @@ use native.Mathlib.Omega.{arith}
 use lib.Dec.{eqb, ltb}
 use lib.ListN.{length}
 use lib.Ieee.{Float}
-use borrow.Author.Tests.{eqb_true, eqb-false, ne_eqb, ltb-true}
+use borrow.Author.Tests.{eqb-true, eqb-false, ne_eqb, ltb-true}
 use Rattle.vector.specs.Points.{from_slice_of}
 use Rattle.vector.specs.Loops.{at}
 use Rattle.vector.proofs.First.{point_laws, ties}
@@ -39,7 +39,7 @@ unfolding standing_of standing_differences_of
 stands r bare h = rw (ne_eqb _ _ bare.simplex, ne_eqb _ _ bare.search, bare.gradient) (at_end (eqb r.diff.at r.n) refl)
   where
     at_end : (b : Bool) → eqb r.diff.at r.n ≡ b → (standing_differences_of r).0 ≡ shown differences_ending r.accepted (rest r)
-    at_end true e = rw e (sym (ap (shown differences_ending r.accepted) ((follows as_told).ends r.n r.diff (eqb_true _ _ e))))
+    at_end true e = rw e (sym (ap (shown differences_ending r.accepted) ((follows as_told).ends r.n r.diff (eqb-true _ _ e))))
     at_end false e = rw e (sym (ap (shown differences_ending r.accepted) ((follows as_told).follows r.n r.diff h (short r h (eqb-false _ _ e)))))
 
 -- the step is that of differences

@@ -4,7 +4,7 @@ use native.Mathlib.Omega.{arith}
 use mathlib.Core.Path.{◌≡◌, refl, sym, ap, subst}
 use mathlib.Core.Bool.{Bool, true, false, not, ◌&&◌, cond, true≢false}
 use mathlib.Core.List.{List, [], ◌∷◌, ◌++◌}
-use borrow.Author.Tests.{eqb_true, ne_eqb}
+use borrow.Author.Tests.{eqb-true, ne_eqb}
 use lib.Dec.{eqb}
 use lib.Ieee.{Float}
 use Rattle.float.proofs.Tests.{and_false}
@@ -77,7 +77,7 @@ module _ {A : Type 0} (ending : A → Reply) (closes : Closes ending) (κ : Kind
 
     -- the number of the open question is not that last accepted
     fresh : (n : ℕ) → eqb a.number (n + 1) ≡ true → (not (eqb n 0) && eqb a.number n) ≡ false
-    fresh n e = rw (ne_eqb a.number n (λ i. omega (arith, eqb_true a.number (n + 1) e))) (and_false (not (eqb n 0)))
+    fresh n e = rw (ne_eqb a.number n (λ i. omega (arith, eqb-true a.number (n + 1) e))) (and_false (not (eqb n 0)))
 
     -- what stands is what the text shows
     abbrev at_text : Text A → List Question → List Exchange → List Reply → Dialogue (Text A)

@@ -2,7 +2,7 @@
 use mathlib.Core.Path.{◌≡◌, refl, sym, ◌∙◌, ap, subst, subst₂}
 use mathlib.Core.Logic.{⊎_elim}
 use mathlib.Core.Bool.{Bool, true, false, cond}
-use mathlib.Core.List.{List, [], ◌∷◌, ◌++◌, append_assoc, append_nil, Memᴰ}
+use mathlib.Core.List.{List, [], ◌∷◌, ◌++◌, append_assoc, append-nil, Memᴰ}
 use lib.Ieee.{Float}
 use Rattle.float.specs.Binary64.{NotAbove}
 use Rattle.protocol.specs.declared.Kind.TheVariants.{Value}
@@ -58,7 +58,7 @@ module _ (d : Dialogue Record) (a : Answer) (l : List Answer) where
   said_by false h = h.said ∙ append_assoc d.replies (n.0 ∷ []) (replies_in (rest false))
 
 comes : (d : Dialogue Record) (l : List Answer) → Comes d (give_all code d l) (calls_from d.standing d.record_now l)
-comes d [] = record { heard = sym (append_nil d.exchanges); put = sym (append_nil d.questions); said = sym (append_nil d.replies) }
+comes d [] = record { heard = sym (append-nil d.exchanges); put = sym (append-nil d.questions); said = sym (append-nil d.replies) }
 comes d (a ∷ l) =
     let b = accepted d.standing a in
     let h = comes (called code d a b (answer_code d.record_now a)) l in

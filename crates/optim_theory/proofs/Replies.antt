@@ -6,7 +6,7 @@ use mathlib.Core.Logic.{◌⊎◌, inl, inr, ⊎_elim}
 use mathlib.Core.List.{List, [], ◌∷◌}
 use native.Mathlib.Omega.{arith}
 use lib.Dec.{T, eqb, ltb, leb}
-use borrow.Author.Tests.{eqb_true, ne_eqb}
+use borrow.Author.Tests.{eqb-true, ne_eqb}
 use lib.ListN.{length, get_or}
 use lib.Ieee.{Float, nan}
 use Rattle.float.proofs.Tests.{either}
@@ -38,8 +38,8 @@ unfolding gradient_job_of
 gradient_marks k = go (eqb k bfgs_mark) refl
   where
     go : (b : Bool) → eqb k bfgs_mark ≡ b → cond b true (eqb k lbfgs_mark) ≡ true → (k ≡ bfgs_mark) ⊎ (k ≡ lbfgs_mark)
-    go true e h = inl (eqb_true k bfgs_mark e)
-    go false e h = inr (eqb_true k lbfgs_mark h)
+    go true e h = inl (eqb-true k bfgs_mark e)
+    go false e h = inr (eqb-true k lbfgs_mark h)
 
 pub no_simplex : (k : ℕ) → gradient_job_of k ≡ true → eqb k simplex_mark ≡ false
 no_simplex k g = ⊎_elim (λ e. ne_eqb k simplex_mark (λ i. omega (arith, e, i))) (λ e. ne_eqb k simplex_mark (λ i. omega (arith, e, i))) (gradient_marks k g)

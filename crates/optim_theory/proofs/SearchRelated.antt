@@ -6,7 +6,7 @@ use native.Mathlib.Omega.{arith}
 use mathlib.Core.Path.{◌≡◌, refl, sym, ◌∙◌, ap, subst}
 use mathlib.Core.Bool.{Bool, true, false, cond}
 use mathlib.Core.List.{List}
-use borrow.Author.Tests.{le-ltb, lt-ltb, ne_eqb, eq-eqb, eqb_true, eqb-false, ltb-true, ltb-false}
+use borrow.Author.Tests.{le-ltb, lt-ltb, ne_eqb, eq-eqb, eqb-true, eqb-false, ltb-true, ltb-false}
 use lib.Dec.{ltb, eqb}
 use lib.ListN.{length, get_or}
 use lib.Ieee.{Float, nan}
@@ -127,7 +127,7 @@ module _ (r : Record) (S : Sound r) where
       last p l m d = omega arith
 
       go : (b : Bool) → eqb s.phase found ≡ b → rest_of r ≡ finish (gives (outcome as_told fixed r.descent.line b s))
-      go true e = ap (λ (m : Ask WolfeResult). m >>= finished) ((search_follows as_told fixed r.descent.line).ends_found s (eqb_true s.phase found e))
+      go true e = ap (λ (m : Ask WolfeResult). m >>= finished) ((search_follows as_told fixed r.descent.line).ends_found s (eqb-true s.phase found e))
       go false e =
           ap (λ (m : Ask WolfeResult). m >>= finished)
           ((search_follows as_told fixed r.descent.line).ends_failed s (last s.phase h S.shape.most (eqb-false s.phase found e)))

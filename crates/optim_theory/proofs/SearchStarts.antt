@@ -5,7 +5,7 @@ use native.Mathlib.Omega.{arith}
 use mathlib.Core.Path.{◌≡◌, refl, sym, ◌∙◌, ap, ap₂, subst}
 use mathlib.Core.Bool.{Bool, true, false, not, ◌&&◌, ◌||◌, cond, true≢false}
 use mathlib.Core.List.{List}
-use borrow.Author.Tests.{ltb-false, eqb_true, eqb-false, not-false}
+use borrow.Author.Tests.{ltb-false, eqb-true, eqb-false, not-false}
 use lib.Dec.{eqb, ltb}
 use lib.ListN.{length}
 use lib.Ieee.{Float, lt, le}
@@ -216,8 +216,8 @@ module _ (s : SearchStart) where
       link (eqb n 0) (eqb n 0) 9 0 _ _ _ body refl refl (λ nine.
       link (not (eqb (length s.d) n)) (not (eqb (length s.d) n)) 10 0 _ _ _ body refl refl (λ ten.
       link (not (eqb (length s.g) n)) (not (eqb (length s.g) n)) 11 0 _ _ _ body refl refl (λ eleven.
-      let j = eqb_true (length s.d) n (not-false _ ten) in
-      let k = eqb_true (length s.g) n (not-false _ eleven) in
+      let j = eqb-true (length s.d) n (not-false _ ten) in
+      let k = eqb-true (length s.g) n (not-false _ eleven) in
       link _ (not (all_finite s.x)) 12 1 _ _ _ body (ap not (finite_as s.x n refl)) refl (λ a.
       link _ (not (all_finite s.d)) 12 2 _ _ _ body (ap not (finite_as s.d n j)) refl (λ b.
       link _ (not (all_finite s.g)) 12 3 _ _ _ body (ap not (finite_as s.g n k)) refl (λ c.

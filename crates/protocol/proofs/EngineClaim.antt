@@ -2,7 +2,7 @@
 use mathlib.Core.Path.{◌≡◌, refl, sym, ◌∙◌, ap, subst, subst₂}
 use mathlib.Core.Logic.{inl, inr}
 use mathlib.Core.List.Memᴰ
-use mathlib.Core.List.{List, [], ◌∷◌, ◌++◌, append_assoc, append_nil}
+use mathlib.Core.List.{List, [], ◌∷◌, ◌++◌, append_assoc, append-nil}
 use mathlib.Core.Bool.{Bool, true, false}
 use lib.Ieee.{Float}
 use Rattle.float.specs.Binary64.{NotAbove}
@@ -88,7 +88,7 @@ module _ (E : Engine) (L : EngineLaws E) where
       let b = ended_stays E w s qs es zs m in
       let xy : x ≡ y = fitted_inj (sym d ∙ a.0 ∙ sym b.0 ∙ e) in
       record {
-        opens = ([], b.1 ∙ sym a.1 ∙ sym (append_nil (give_all E (talk (ended w) r qs es ys) l).questions));
+        opens = ([], b.1 ∙ sym a.1 ∙ sym (append-nil (give_all E (talk (ended w) r qs es ys) l).questions));
         no_larger = subst (λ (u : Result). NotAbove u.f x.f) xy (not_above_self x.f);
         equal = λ n. xy;
       }
@@ -104,7 +104,7 @@ module _ (E : Engine) (L : EngineLaws E) where
       let wx : w ≡ x = fitted_inj (sym a.0 ∙ d) in
       let h = more_questions E (talk z s (qs ++ question_in z) es zs) m in
       record {
-        opens = (question_in z ++ h.0, h.1 ∙ append_assoc qs (question_in z) h.0 ∙ ap (λ (k : List Question). k ++ (question_in z ++ h.0)) (sym (a.1 ∙ append_nil qs)));
+        opens = (question_in z ++ h.0, h.1 ∙ append_assoc qs (question_in z) h.0 ∙ ap (λ (k : List Question). k ++ (question_in z ++ h.0)) (sym (a.1 ∙ append-nil qs)));
         no_larger = subst (λ (u : Result). NotAbove y.f u.f) wx (low_after g w.f m (low g w.f m fm) z s (qs ++ question_in z) es zs gg b c y e);
         equal = λ n. absurd (n (subst (λ (u : Result). ForAllowance u.reason) wx why));
       }

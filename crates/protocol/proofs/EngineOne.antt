@@ -2,7 +2,7 @@
 use mathlib.Core.Path.{◌≡◌, refl, sym, ◌∙◌, subst}
 use mathlib.Core.Logic.{⊎_elim}
 use mathlib.Core.List.Memᴰ
-use mathlib.Core.List.{List, [], ◌∷◌, ◌++◌, append_assoc, append_nil, Memᴰ}
+use mathlib.Core.List.{List, [], ◌∷◌, ◌++◌, append_assoc, append-nil, Memᴰ}
 use mathlib.Core.Bool.{Bool, true, false, cond, false≢true}
 use Prim.Native.Nat.{ℕ, suc}
 use lib.Dec.{eqb}
@@ -35,7 +35,7 @@ module _ (E : Engine) where
 
   -- questions and exchanges are only added
   pub more_questions : (s : Dialogue E.Record) (l : List Answer) → OpensWith (give_all E s l).questions s.questions
-  more_questions s [] = ([], sym (append_nil s.questions))
+  more_questions s [] = ([], sym (append-nil s.questions))
   more_questions s (a ∷ l) = step (accepted s.standing a) (more_questions (give E s a) l)
     where
       n : Reply × E.Record

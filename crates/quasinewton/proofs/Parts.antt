@@ -4,7 +4,7 @@ use mathlib.Core.Path.{◌≡◌, refl, sym, ap}
 use mathlib.Core.Bool.{Bool, true, false, not, cond}
 use lib.Dec.{eqb}
 use lib.Ieee.{lt}
-use borrow.Author.Tests.{eqb_true}
+use borrow.Author.Tests.{eqb-true}
 use Rattle.float.specs.Binary64.{plus_zero}
 use Rattle.vector.specs.Points.{all_finite_of}
 use Rattle.linesearch_trials.specs.declared.Evaluation.{Evaluation}
@@ -115,6 +115,6 @@ pub settled_parts : (fixed : Fixed) (q : Descent) (m : Model) (fevals : ℕ) →
 settled_parts fixed q m fevals = go (eqb q.phase at_head) refl (eqb q.phase searching) refl
   where
     go : (b : Bool) → eqb q.phase at_head ≡ b → (c : Bool) → eqb q.phase searching ≡ c → Parts fixed fevals q m
-    go true e c f = from_head fixed fevals q m q.phase (eqb_true _ _ e)
-    go false e true f = from_search fixed fevals q m q.phase (eqb_true _ _ f)
+    go true e c f = from_head fixed fevals q m q.phase (eqb-true _ _ e)
+    go false e true f = from_search fixed fevals q m q.phase (eqb-true _ _ f)
     go false e false f = elsewhere fixed fevals q m e f

@@ -5,7 +5,7 @@ use mathlib.Core.Bool.{Bool, true, false, cond}
 use mathlib.Core.List.{List}
 use native.Mathlib.Omega.{arith}
 use lib.Dec.{eqb}
-use borrow.Author.Tests.{eqb_true, eqb-false}
+use borrow.Author.Tests.{eqb-true, eqb-false}
 use Rattle.quasinewton_limited.specs.declared.Pair.{Pair}
 use Rattle.quasinewton_limited.specs.declared.Limited.{Limited}
 use Rattle.quasinewton_limited.specs.declared.Sweep.{Sweep}
@@ -30,7 +30,7 @@ unfolding room_of popped_of
 room_free l memory h k = go (eqb l.count memory) refl
   where
     pop : (b : Bool) → eqb l.count 0 ≡ b → (cond {A = Limited} b l (record { count = l.count - 1; gamma = l.gamma; pairs = shifted_of l.pairs (l.count - 1) })).count < 16
-    pop true e = omega (arith, eqb_true l.count 0 e)
+    pop true e = omega (arith, eqb-true l.count 0 e)
     pop false e = omega (arith, eqb-false l.count 0 e)
 
     go : (b : Bool) → eqb l.count memory ≡ b

@@ -9,7 +9,7 @@ use lib.Dec.{eqb}
 use lib.ListN.{length, set, replicate, length-set, length-replicate, get_or-replicate}
 use lib.Seq.{get_or-set_same, get_or-set_other}
 use lib.Ieee.{Float, nan, lt}
-use borrow.Author.Tests.{eqb_true, eqb-false}
+use borrow.Author.Tests.{eqb-true, eqb-false}
 use Rattle.float.specs.Binary64.{◌⊘◌, plus_zero}
 use Rattle.vector.specs.Loops.{at}
 use Rattle.vector.specs.Points.{dot_of, mat_vec_of, negation_of}
@@ -47,7 +47,7 @@ each_pair : (P : Pair → Type 0) (memory : ℕ) (l r : Limited) (p : Pair) → 
 each_pair P memory l r p o new old i h = go (eqb i r.count) refl
   where
     go : (b : Bool) → eqb i r.count ≡ b → P (pair_at (set r.pairs r.count p) i)
-    go true e = subst P (sym (ap (pair_at (set r.pairs r.count p)) (eqb_true i r.count e) ∙ get_or-set_same r.pairs r.count p no_pair (omega (arith, o.fewer, o.long)))) new
+    go true e = subst P (sym (ap (pair_at (set r.pairs r.count p)) (eqb-true i r.count e) ∙ get_or-set_same r.pairs r.count p no_pair (omega (arith, o.fewer, o.long)))) new
     go false e =
         let f = o.each i h in
         subst P (sym (get_or-set_other r.pairs r.count i p no_pair (eqb-false i r.count e) ∙ f.2)) (old f.0 f.1)

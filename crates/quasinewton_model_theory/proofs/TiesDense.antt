@@ -9,7 +9,7 @@ use native.Mathlib.Omega.{arith}
 use lib.Dec.{eqb}
 use lib.ListN.{length, replicate, get_or-replicate}
 use lib.Ieee.{Float, nan, lt, neg}
-use borrow.Author.Tests.{eqb_true, eqb-false}
+use borrow.Author.Tests.{eqb-true, eqb-false}
 use Rattle.float.specs.Binary64.{◌⊕◌, ◌⊗◌, ◌⊘◌, plus_zero}
 use Rattle.vector.specs.Loops.{at}
 use Rattle.vector.specs.Points.{dot_of, mat_vec_of}
@@ -47,7 +47,7 @@ diagonal_at c n i j a b small = go (eqb i j) refl
   where
     go : (t : Bool) → eqb i j ≡ t → at (diagonal_of c n) (i * 16 + j) ≡ cond t c plus_zero
     go true e =
-        let same : j ≡ i = sym (eqb_true i j e) in
+        let same : j ≡ i = sym (eqb-true i j e) in
         rw same (diagonal_on c n i a small)
     go false e = diagonal_off c n i j (omega arith) (omega arith) (λ k l p q. eqb-false i j e (p ∙ sym q)) small
 

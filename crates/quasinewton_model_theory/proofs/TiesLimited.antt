@@ -2,14 +2,14 @@
 use Prim.Native.Nat.{ℕ, zero, suc, ◌+◌, ◌-◌, ◌≤◌, ◌<◌}
 use mathlib.Core.Path.{◌≡◌, refl, sym, ap, ◌∙◌}
 use mathlib.Core.Bool.{Bool, true, false, cond}
-use mathlib.Core.List.{List, [], ◌∷◌, ◌++◌, foldl, reverse, reverse_aux, append_nil, append_assoc}
+use mathlib.Core.List.{List, [], ◌∷◌, ◌++◌, foldl, reverse, reverse_aux, append-nil, append_assoc}
 use native.Mathlib.Numerals.{add-one}
 use native.Mathlib.Omega.{arith}
 use lib.Dec.{eqb, ltb}
 use lib.ListN.{length, set, drop, replicate, length-set, length-replicate}
 use lib.Seq.{get_or-set_same, get_or-set_other}
 use lib.Ieee.{Float, nan, lt}
-use borrow.Author.Tests.{eqb_true, eqb-false, ltb-true, ltb-false}
+use borrow.Author.Tests.{eqb-true, eqb-false, ltb-true, ltb-false}
 use Rattle.float.specs.Binary64.{◌⊖◌, ◌⊗◌, ◌⊘◌, plus_zero}
 use Rattle.vector.specs.Loops.{upto, at}
 use Rattle.vector.specs.Points.{dot_of, scaled_of}
@@ -97,7 +97,7 @@ limited_direction_lem l memory g n h =
     let w : Sweep = record { q = g; alphas = replicate 16 plus_zero } in
     let v = down_from l.pairs n l.count w in
     let swept = falls l.pairs n l.count w [] (rw (length-replicate 16 plus_zero) h)
-    ∙ ap (λ (a : List Float). record { q = first n v.q; alphas = a }) (append_nil (upto (at v.alphas) l.count)) in
+    ∙ ap (λ (a : List Float). record { q = first n v.q; alphas = a }) (append-nil (upto (at v.alphas) l.count)) in
     ties.negation_of_lem (all_up_of l.pairs (scaled_of v.q l.gamma n) v.alphas n l.count) n
     ∙ ap negation (ups l.pairs n (scaled_of v.q l.gamma n) v.alphas l.count)
     ∙ rw (swept, ties.scaled_of_lem v.q l.gamma n)
@@ -150,11 +150,11 @@ module _ (memory : ℕ) (l : Limited) (h : l.count ≤ memory) (small : memory �
   popped_room full = go (eqb l.count 0) refl
     where
       same : l.count ≡ memory
-      same = eqb_true l.count memory full
+      same = eqb-true l.count memory full
 
       go : (b : Bool) → eqb l.count 0 ≡ b → Room memory l (cond {A = Limited} b l (record { count = l.count - 1; gamma = l.gamma; pairs = shifted_of l.pairs (l.count - 1) }))
       go true e =
-          let none : l.count ≡ 0 = eqb_true l.count 0 e in
+          let none : l.count ≡ 0 = eqb-true l.count 0 e in
           record {
             fewer = omega arith;
             within = λ t. omega (arith, same);

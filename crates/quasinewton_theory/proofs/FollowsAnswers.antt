@@ -4,7 +4,7 @@ use mathlib.Core.Path.{◌≡◌, refl, sym, ap, ◌∙◌, fun_ext}
 use mathlib.Core.Bool.{Bool, true, false, not, cond}
 use mathlib.Core.List.{List}
 use native.Mathlib.Omega.{arith}
-use borrow.Author.Tests.{ltb-false, lt-ltb, eqb_true, eqb-false, leb-true}
+use borrow.Author.Tests.{ltb-false, lt-ltb, eqb-true, eqb-false, leb-true}
 use lib.Dec.{leb, ltb, eqb}
 use lib.ListN.{length, get_or}
 use lib.Ieee.{Float, nan}
@@ -143,8 +143,8 @@ module _ (fixed : Fixed) (m : Model) where
   in_opening q z i = go (eqb q.phase first_value) refl (eqb q.phase first_gradient) refl
     where
       go : (b : Bool) → eqb q.phase first_value ≡ b → (c : Bool) → eqb q.phase first_gradient ≡ c → Follows q
-      go true e c f = valuing q q.phase (eqb_true q.phase first_value e)
-      go false e true f = grading q q.phase (eqb_true q.phase first_gradient f)
+      go true e c f = valuing q q.phase (eqb-true q.phase first_value e)
+      go false e true f = grading q q.phase (eqb-true q.phase first_gradient f)
       go false e false f =
           let last = third q.phase z.least i (eqb-false q.phase first_value e) (eqb-false q.phase first_gradient f) in
           differing q q.phase last z.parts.diff (z.asked last)
@@ -157,5 +157,5 @@ module _ (fixed : Fixed) (m : Model) where
       by b e = sym (ap (λ (c : Bool). cond c (leb q.search.phase asks_difference) (leb q.phase first_differences)) e) ∙ h
 
       go : (b : Bool) → eqb q.phase searching ≡ b → Follows q
-      go true e = in_search q q.phase (eqb_true q.phase searching e) z.parts.search (leb-true _ _ (by true e))
+      go true e = in_search q q.phase (eqb-true q.phase searching e) z.parts.search (leb-true _ _ (by true e))
       go false e = in_opening q z (leb-true _ _ (by false e))

@@ -6,7 +6,7 @@ use mathlib.Core.Bool.{Bool, true, false, cond}
 use mathlib.Core.Logic.{inr}
 use mathlib.Core.List.{List}
 use native.Mathlib.Omega.{arith}
-use borrow.Author.Tests.{eqb_true, eqb-false, ne_eqb, leb-true, leb-false}
+use borrow.Author.Tests.{eqb-true, eqb-false, ne_eqb, leb-true, leb-false}
 use lib.Dec.{leb, eqb}
 use lib.Ieee.{Float}
 use Rattle.vector.specs.Lists.{first}
@@ -87,7 +87,7 @@ module _ (fixed : Fixed) where
 
       go : (b : Bool) → eqb q.phase searching ≡ b → to_do fixed q m ≡ finish (ending_of fixed q m)
       go true e =
-          let i : q.search.phase ≤ asks_difference = s.asking (eqb_true q.phase searching e) in
+          let i : q.search.phase ≤ asks_difference = s.asking (eqb-true q.phase searching e) in
           absurd (omega (arith, i, leb-false q.search.phase asks_difference (by true e)))
       go false e = ended_does q m (leb-false _ _ (by false e)) e (ne_eqb q.phase step.at_head (λ f. omega (arith, s.most)))
 
@@ -121,10 +121,10 @@ module _ (fixed : Fixed) where
             → settled k v (searches.to_do read_of (search_fixed fixed) q.line s >>= rest)
             ≡ goes (cond b (succeeded_of fixed now m s.best v) (cond c (moved (missed_of now s.best) m) (moved now m)))
         go true i c j =
-            ap (λ (t : Ask WolfeResult). settled k v (t >>= rest)) ((search_follows read_of (search_fixed fixed) q.line).ends_found s (eqb_true _ _ i))
+            ap (λ (t : Ask WolfeResult). settled k v (t >>= rest)) ((search_follows read_of (search_fixed fixed) q.line).ends_found s (eqb-true _ _ i))
             ∙ (succeeded_settles fixed small k v allows now m s.best sized).settles
         go false i true j =
-            ap (λ (t : Ask WolfeResult). settled k v (t >>= rest)) ((search_follows read_of (search_fixed fixed) q.line).ends_failed s (eqb_true _ _ j))
+            ap (λ (t : Ask WolfeResult). settled k v (t >>= rest)) ((search_follows read_of (search_fixed fixed) q.line).ends_failed s (eqb-true _ _ j))
             ∙ (missed_settles fixed small k v allows now m s.best).settles
         go false i false j = still (omega (arith, z.most, eqb-false s.phase found i, eqb-false s.phase failed j))
 
@@ -158,6 +158,6 @@ module _ (fixed : Fixed) where
     settles q z = go (eqb q.phase step.at_head) refl (eqb q.phase searching) refl
       where
         go : (b : Bool) → eqb q.phase step.at_head ≡ b → (c : Bool) → eqb q.phase searching ≡ c → settled k v (to_do fixed q m) ≡ goes (settled_of fixed q m v)
-        go true e c f = from_head q q.phase (eqb_true _ _ e) z.small
-        go false e true f = from_search q q.phase (eqb_true _ _ f) z.small z.parts.search
+        go true e c f = from_head q q.phase (eqb-true _ _ e) z.small
+        go false e true f = from_search q q.phase (eqb-true _ _ f) z.small z.parts.search
         go false e false f = elsewhere q z e f ∙ ap goes (sym (stays q e f))

@@ -4,7 +4,7 @@ use mathlib.Core.Path.{◌≡◌, refl}
 use mathlib.Core.Bool.{Bool, true, false, not, cond}
 use mathlib.Core.List.{List}
 use native.Mathlib.Omega.{arith}
-use borrow.Author.Tests.{eqb_true, eqb-false}
+use borrow.Author.Tests.{eqb-true, eqb-false}
 use lib.Dec.{leb, eqb}
 use lib.Ieee.{Float, neg, lt, le}
 use Rattle.float.specs.Binary64.{plus_zero}
@@ -134,7 +134,7 @@ module _ (fixed : Fixed) where
           record {
             stands =
                 record {
-                  most = omega (arith, eqb_true q.phase searching f);
+                  most = omega (arith, eqb-true q.phase searching f);
                   asking = λ i. omega (arith, z.parts.search.most, eqb-false q.search.phase linesearch.found g, eqb-false q.search.phase linesearch.failed h);
                 };
           }

@@ -8,7 +8,7 @@ use lib.Dec.{eqb}
 use lib.ListN.{length, length-set, set}
 use lib.Seq.{get_or-set_same, get_or-set_other, ext_get_or}
 use lib.Ieee.{Float, nan}
-use borrow.Author.Tests.{eqb_true, eqb-false}
+use borrow.Author.Tests.{eqb-true, eqb-false}
 use Rattle.vector.specs.Loops.{at}
 use Rattle.vector.specs.Lists.{first}
 use Rattle.vector.proofs.First.{upto_same, point_laws}
@@ -25,7 +25,7 @@ first_set n x i v h l =
     read y k j = point_laws.read n y k j
 
     place : (k : ℕ) → k < n → (b : Bool) → eqb k i ≡ b → at (set x i v) k ≡ at (set (first n x) i v) k
-    place k j true e = ap (at (set x i v)) (eqb_true k i e) ∙ get_or-set_same x i v nan l ∙ sym (ap (at (set (first n x) i v)) (eqb_true k i e) ∙ get_or-set_same (first n x) i v nan (rw (listed x) h))
+    place k j true e = ap (at (set x i v)) (eqb-true k i e) ∙ get_or-set_same x i v nan l ∙ sym (ap (at (set (first n x) i v)) (eqb-true k i e) ∙ get_or-set_same (first n x) i v nan (rw (listed x) h))
     place k j false e = get_or-set_other x i k v nan (eqb-false k i e) ∙ sym (get_or-set_other (first n x) i k v nan (eqb-false k i e) ∙ read x k j)
 
 -- the next coordinate is put at the end of those that are done

@@ -1,5 +1,5 @@
 -- `fit::fed_part` meets its contract: each line goes further, and adds what it brings. Assumes nothing.
-use Rattle.std.proofs.Common.{List, ◌++◌, ℕ, drop, sym, ap, subst, ◌∙◌, arith, append_nil}
+use Rattle.std.proofs.Common.{List, ◌++◌, ℕ, drop, sym, ap, subst, ◌∙◌, arith, append-nil}
 use Rattle.fit_state.specs.States.{scanned_of}
 use Rattle.fit_dialogue.specs.declared.Place.{Place}
 use Rattle.fit_dialogue.specs.declared.Step.{Step}
@@ -42,4 +42,4 @@ returns-clause-replies g c =
     let l = c.loop-at in
     let (text, split, wrote) = l.invariant in
     let end = part_ends l.place c.args.s.now l.at c.loop-at-test.false in
-    subst (Wrote _ _ _) (sym (append_nil text) ∙ ap (λ (q : List ℕ × Place). q.0) (ap (and_then text) (sym end) ∙ split)) wrote
+    subst (Wrote _ _ _) (sym (append-nil text) ∙ ap (λ (q : List ℕ × Place). q.0) (ap (and_then text) (sym end) ∙ split)) wrote

@@ -1,7 +1,7 @@
 -- `lines_buffer::put_digits` meets its contract: the digits that are to come and those that stand are the numeral. Assumes nothing.
 use Prim.Native.Nat.{◌+◌, ◌-◌, ◌<◌}
 use mathlib.Core.Path.{◌≡◌, refl, ap, ◌∙◌}
-use mathlib.Core.List.{List, ◌++◌, append_nil}
+use mathlib.Core.List.{List, ◌++◌, append-nil}
 use native.Mathlib.Omega.{arith}
 use native.Mathlib.Nat.{mod-lt}
 use lib.ListN.{length-set}
@@ -14,7 +14,7 @@ pub loop-i-init : goal.loop-i-init
 loop-i-init c =
     let a = c.args in
     let all = numeral a.base a.k a.n in
-    (omega arith, omega arith, refl, refl, ap (λ (l : List _). all ++ l) (slice_empty (a.at + a.k) a.out.now) ∙ append_nil all)
+    (omega arith, omega arith, refl, refl, ap (λ (l : List _). all ++ l) (slice_empty (a.at + a.k) a.out.now) ∙ append-nil all)
 
 pub glyph-requires : goal.glyph-requires
 glyph-requires c =

@@ -1,6 +1,6 @@
 -- `lines_forms::words` meets its contract: after i turns the first i of seventeen places are filled. Assumes nothing.
 use mathlib.Core.Path.{◌≡◌, refl, ◌∙◌}
-use mathlib.Core.List.{append_nil}
+use mathlib.Core.List.{append-nil}
 use Prim.Native.Nat.{◌+◌}
 use native.Mathlib.Omega.{arith}
 use lib.Ieee.{of_bits}
@@ -23,4 +23,4 @@ unfolding words_of
 returns c =
     let l = c.loop-i in
     let end : l.i ≡ 17 = omega arith in
-    rw end at l.invariant.1 ∙ append_nil _
+    rw end at l.invariant.1 ∙ append-nil _
