@@ -65,7 +65,7 @@ module _ (r : Record) where
   search_valid j c p = (whole r).1 (c, at_search j ∙ (bare_part r).1 p)
 
   pub descent_valid : Descends r → Common r → DescentPart r → valid_of r ≡ true
-  descent_valid j c p = (whole r).1 (c, at_descent j ∙ (descent_part r j).1 p)
+  descent_valid j c p = (whole r).1 (c, at_descent j ∙ (descent_part r).1 p)
 
   pub differences_valid : r.job ≡ differences_mark → Common r → r.diff.at ≤ r.n → valid_of r ≡ true
   differences_valid j c p = (whole r).1 (c, at_differences j ∙ le-leb r.diff.at r.n p)
@@ -77,7 +77,7 @@ module _ (r : Record) (e : by_job r ≡ true) where
   of_simplex j = (simplex_part r).0 (sym (at_simplex r j) ∙ e)
 
   of_descent : Descends r → DescentPart r
-  of_descent j = (descent_part r j).0 (sym (at_descent r j) ∙ e)
+  of_descent j = (descent_part r).0 (sym (at_descent r j) ∙ e)
 
   of_bare : r.job ≡ search_mark → BarePart r
   of_bare j = (bare_part r).0 (sym (at_search r j) ∙ e)
@@ -105,10 +105,11 @@ in_range r v =
         trial = λ j. (of_search r e j).at;
         coordinate = λ j. leb-true r.diff.at r.n (sym (at_differences r j) ∙ e);
       };
-      pairs = λ j. (of_descent r e (inr j)).model.pairs j;
+      pairs = λ j. (of_descent r e j).model.pairs;
       trials = λ j. (of_search r e j).trials;
       options = record {
-        memory = λ j. (of_descent r e (inr j)).model.most j;
+        memory = λ j. (of_descent r e j).memory;
+        held = λ j. (of_descent r e j).model.most;
         iter = λ j. ⊎_elim (λ i. (of_simplex r e i).iter) (λ i. (of_descent r e i).iter) j;
         fevals = λ j. (of_simplex r e j).fevals;
         gradient_fevals = λ j. (of_descent r e j).fevals;
@@ -120,9 +121,6 @@ in_range r v =
         simplex = λ j. let p = of_simplex r e j in (p.phase_low, p.phase_high);
         descent = λ j. let p = of_descent r e j in (p.phase_low, p.phase_high);
         ending = λ j. (of_descent r e j).ending;
-        dense = λ j. (of_descent r e (inl j)).model.dense j;
-        limited = λ j. (of_descent r e (inr j)).model.limited j;
-        memory = λ j. (of_descent r e (inr j)).model.copy j;
         searching = λ j. (of_bare r e j).phase;
         search = λ j. let p = of_search r e j in (p.phase_low, p.phase_high);
       };
@@ -167,8 +165,9 @@ module _ (r : Record) (h : InRange r) where
         rounds = h.counts.descents j;
         at = h.positions.first_gradient_lem j;
         iter = h.options.iter (inr j);
+        memory = h.options.memory j;
         fevals = h.options.gradient_fevals j;
-        model = record { dense = h.marks.dense; limited = h.marks.limited; most = h.options.memory; copy = h.marks.memory; pairs = h.pairs };
+        model = record { most = h.options.held j; pairs = h.pairs j };
         search = to_search (inl j);
       }
 

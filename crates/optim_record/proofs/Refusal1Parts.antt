@@ -1,7 +1,7 @@
 -- The tests that `valid` makes of a part of a record, each with what it means: `simplex_part`, `bare_part`, `descent_part`, `whole`. Assumes nothing.
 use Prim.Native.Nat.{ℕ, ◌≤◌, ◌<◌}
 use native.Mathlib.Omega.{arith}
-use mathlib.Core.Path.{◌≡◌, refl, sym, ◌∙◌, ap}
+use mathlib.Core.Path.{◌≡◌, refl, sym, ◌∙◌, ap, subst}
 use mathlib.Core.Bool.{Bool, true, false, not, cond, true≢false}
 use mathlib.Core.Logic.{◌⊎◌, inl, inr, ⊎_elim, ◌↔◌}
 use mathlib.Core.List.{List, [], ◌∷◌}
@@ -10,8 +10,8 @@ use borrow.Author.Tests.{ltb-false, leb-true, eqb-true, eqb-false, not-true, not
 use Rattle.quasinewton_record.specs.declared.Descent.{Descent}
 use Rattle.optim_record.specs.declared.Record.{Record}
 use Rattle.optim_record.specs.Record.{no_limit, gradient_job_of, valid_simplex_of, valid_search_part_of, valid_search_of, known_refusal_of, valid_ending_of, valid_options_of, valid_model_of, valid_descent_of, valid_of}
-use Rattle.protocol.specs.Protocol.{simplex_mark, bfgs_mark, lbfgs_mark, search_mark, differences_mark}
-use Rattle.optim_record.specs.Refusal1.{Descends, OneOf, EndingMark}
+use Rattle.protocol.specs.Protocol.{simplex_mark, search_mark, differences_mark}
+use Rattle.optim_record.specs.Refusal1.{OneOf, EndingMark}
 
 -- ---- tests, each with what it means
 
@@ -58,6 +58,13 @@ apart k j (x ∷ l) m (inr s) e = apart k j l ((both (eqb j x) (missing j l) (λ
 
 -- ---- the refusal that ended a gradient fit
 
+abbrev enders : List ℕ
+enders = 6 ∷ 7 ∷ 9 ∷ 10 ∷ 11 ∷ 13 ∷ 14 ∷ 18 ∷ 19 ∷ []
+
+-- the test of those with detail 0, after 5 and 12
+numbers : ℕ → Bool
+numbers k = cond (ltb k 6) false (cond (leb k 14) (not (eqb k 8)) (cond (eqb k 18) true (eqb k 19)))
+
 module _ (k d : ℕ) where
   details : (cond (eqb d 1) true (eqb d 2) ≡ true) ↔ OneOf d (1 ∷ 2 ∷ [])
   details = either _ _ (equal d 1) (last d 2)
@@ -81,33 +88,66 @@ module _ (k d : ℕ) where
       down (inr (inr (inr (inl e)))) = omega arith
       down (inr (inr (inr (inr none)))) = elim none [ ]
 
-  abbrev numbers : Bool
-  numbers = cond (eqb k 6) true (cond (eqb k 7) true (cond (eqb k 13) true (cond (eqb k 14) true (cond (eqb k 18) true (eqb k 19)))))
+  -- the six to fourteen but eight and twelve
+  among : 6 ≤ k → k ≤ 14 → (k ≡ 8 → ⊥) → (k ≡ 12 → ⊥) → OneOf k enders
+  among low high eight twelve = go (eqb k 6) refl (eqb k 7) refl (eqb k 9) refl (eqb k 10) refl (eqb k 11) refl (eqb k 13) refl
+    where
+      go : (a : Bool) → eqb k 6 ≡ a → (b : Bool) → eqb k 7 ≡ b → (c : Bool) → eqb k 9 ≡ c → (e : Bool) → eqb k 10 ≡ e → (f : Bool) → eqb k 11 ≡ f → (g : Bool) → eqb k 13 ≡ g
+          → OneOf k enders
+      go true i b j c l e m f n g o = inl (eqb-true k 6 i)
+      go false i true j c l e m f n g o = inr (inl (eqb-true k 7 j))
+      go false i false j true l e m f n g o = inr (inr (inl (eqb-true k 9 l)))
+      go false i false j false l true m f n g o = inr (inr (inr (inl (eqb-true k 10 m))))
+      go false i false j false l false m true n g o = inr (inr (inr (inr (inl (eqb-true k 11 n)))))
+      go false i false j false l false m false n true o = inr (inr (inr (inr (inr (inl (eqb-true k 13 o))))))
+      go false i false j false l false m false n false o =
+          let fourteen : k ≡ 14 =
+          omega (arith, low, high, eight, twelve, eqb-false k 6 i, eqb-false k 7 j, eqb-false k 9 l, eqb-false k 10 m, eqb-false k 11 n, eqb-false k 13 o) in
+          inr (inr (inr (inr (inr (inr (inl fourteen))))))
 
-  others : (cond (not (eqb d 0)) false numbers ≡ true) ↔ ((d ≡ 0) × OneOf k (6 ∷ 7 ∷ 13 ∷ 14 ∷ 18 ∷ 19 ∷ []))
-  others =
-      both _ _ (denied _ (equal d 0))
-      (either _ _ (equal k 6) (either _ _ (equal k 7) (either _ _ (equal k 13) (either _ _ (equal k 14) (either _ _ (equal k 18) (last k 19))))))
+  ender : (k ≡ 12 → ⊥) → numbers k ≡ true → OneOf k enders
+  unfolding numbers
+  ender twelve e = go (ltb k 6) refl (leb k 14) refl (eqb k 18) refl e
+    where
+      go : (a : Bool) → ltb k 6 ≡ a → (b : Bool) → leb k 14 ≡ b → (c : Bool) → eqb k 18 ≡ c
+          → cond a false (cond b (not (eqb k 8)) (cond c true (eqb k 19))) ≡ true → OneOf k enders
+      go true i b j c l h = absurd (true≢false (sym h))
+      go false i true j c l h = among (ltb-false k 6 i) (leb-true k 14 j) (eqb-false k 8 (not-true (eqb k 8) h)) twelve
+      go false i false j true l h = inr (inr (inr (inr (inr (inr (inr (inl (eqb-true k 18 l))))))))
+      go false i false j false l h = inr (inr (inr (inr (inr (inr (inr (inr (inl (eqb-true k 19 h)))))))))
+
+  ends : OneOf k enders → numbers k ≡ true
+  unfolding numbers
+  ends (inl e) = subst (λ j. numbers j ≡ true) (sym e) refl
+  ends (inr (inl e)) = subst (λ j. numbers j ≡ true) (sym e) refl
+  ends (inr (inr (inl e))) = subst (λ j. numbers j ≡ true) (sym e) refl
+  ends (inr (inr (inr (inl e)))) = subst (λ j. numbers j ≡ true) (sym e) refl
+  ends (inr (inr (inr (inr (inl e))))) = subst (λ j. numbers j ≡ true) (sym e) refl
+  ends (inr (inr (inr (inr (inr (inl e)))))) = subst (λ j. numbers j ≡ true) (sym e) refl
+  ends (inr (inr (inr (inr (inr (inr (inl e))))))) = subst (λ j. numbers j ≡ true) (sym e) refl
+  ends (inr (inr (inr (inr (inr (inr (inr (inl e)))))))) = subst (λ j. numbers j ≡ true) (sym e) refl
+  ends (inr (inr (inr (inr (inr (inr (inr (inr (inl e))))))))) = subst (λ j. numbers j ≡ true) (sym e) refl
+  ends (inr (inr (inr (inr (inr (inr (inr (inr (inr none))))))))) = elim none [ ]
+
+  others : (k ≡ 12 → ⊥) → (cond (not (eqb d 0)) false (numbers k) ≡ true) ↔ ((d ≡ 0) × OneOf k enders)
+  others twelve = both _ _ (denied _ (equal d 0)) (ender twelve, ends)
 
   pub known : (known_refusal_of k d ≡ true) ↔ EndingMark k d
-  unfolding known_refusal_of missing
+  unfolding known_refusal_of missing numbers
   known = (there (eqb k 5) refl (eqb k 12) refl, back)
     where
-      enders : List ℕ
-      enders = 6 ∷ 7 ∷ 13 ∷ 14 ∷ 18 ∷ 19 ∷ []
-
       by : Bool → Bool → Bool
-      by a b = cond a (cond (eqb d 1) true (eqb d 2)) (cond b (cond (eqb d 0) false (leb d 4)) (cond (not (eqb d 0)) false numbers))
+      by a b = cond a (cond (eqb d 1) true (eqb d 2)) (cond b (cond (eqb d 0) false (leb d 4)) (cond (not (eqb d 0)) false (numbers k)))
 
       there : (a : Bool) → eqb k 5 ≡ a → (b : Bool) → eqb k 12 ≡ b → by a b ≡ true → EndingMark k d
       there true i b j e = inl (eqb-true k 5 i, details.0 e)
       there false i true j e = inr (inl (eqb-true k 12 j, to_four.0 e))
-      there false i false j e = inr (inr (others.0 e))
+      there false i false j e = inr (inr ((others (eqb-false k 12 j)).0 e))
 
       back : EndingMark k d → known_refusal_of k d ≡ true
       back (inl h) = rw (eq-eqb k 5 h.0) (details.1 h.1)
       back (inr (inl h)) = rw (ne_eqb k 5 (λ e. omega (arith, h.0)), eq-eqb k 12 h.0) (to_four.1 h.1)
-      back (inr (inr h)) = rw (ne_eqb k 5 (apart k 5 enders refl h.1), ne_eqb k 12 (apart k 12 enders refl h.1)) (others.1 h)
+      back (inr (inr h)) = let t = apart k 12 enders refl h.1 in rw (ne_eqb k 5 (apart k 5 enders refl h.1), ne_eqb k 12 t) ((others t).1 h)
 
 pub ending_part : (d : Descent) → (valid_ending_of d ≡ true) ↔ (d.phase ≡ 12 → EndingMark d.number d.detail)
 unfolding valid_ending_of
@@ -182,28 +222,14 @@ bare_part r =
 
 -- of a gradient fit's model
 pub record ModelPart (r : Record) : Type 0 where
-  pub dense : r.job ≡ bfgs_mark → r.model.limited ≡ false
-  pub limited : r.job ≡ lbfgs_mark → r.model.limited ≡ true
-  pub most : r.job ≡ lbfgs_mark → r.gradient.memory ≤ 16
-  pub copy : r.job ≡ lbfgs_mark → r.model.memory ≡ r.gradient.memory
-  pub pairs : r.job ≡ lbfgs_mark → r.model.pairs.count ≤ r.gradient.memory
+  pub most : r.model.memory ≤ 16
+  pub pairs : r.model.pairs.count ≤ r.model.memory
 
-model_part : (r : Record) → Descends r → (valid_model_of r ≡ true) ↔ ModelPart r
+model_part : (r : Record) → (valid_model_of r.model ≡ true) ↔ ModelPart r
 unfolding valid_model_of
-model_part r (inl i) =
-    let other : r.job ≡ lbfgs_mark → ⊥ = λ k. omega arith in
-    rw (eq-eqb r.job bfgs_mark i) (
-      λ e. record { dense = λ k. not-true _ e; limited = λ k. absurd (other k); most = λ k. absurd (other k); copy = λ k. absurd (other k); pairs = λ k. absurd (other k) },
-      λ p. ap not (p.dense i),
-    )
-model_part r (inr i) =
-    let other : r.job ≡ bfgs_mark → ⊥ = λ k. omega arith in
-    let o = r.gradient.memory in
-    let t = both _ _ (denied r.model.limited (λ e. e, λ e. e)) (both _ _ (at_most o 16) (both _ _ (denied _ (equal r.model.memory o)) (last_at_most r.model.pairs.count o))) in
-    rw (ne_eqb r.job bfgs_mark other) (
-      λ e. let (l, (m, (c, k))) = t.0 e in record { dense = λ j. absurd (other j); limited = λ j. l; most = λ j. m; copy = λ j. c; pairs = λ j. k },
-      λ p. t.1 (p.limited i, (p.most i, (p.copy i, p.pairs i))),
-    )
+model_part r =
+    let t = both _ _ (at_most r.model.memory 16) (last_at_most r.model.pairs.count r.model.memory) in
+    (λ e. let (m, k) = t.0 e in record { most = m; pairs = k }, λ p. t.1 (p.most, p.pairs))
 
 -- of a gradient fit
 pub record DescentPart (r : Record) : Type 0 where
@@ -214,17 +240,20 @@ pub record DescentPart (r : Record) : Type 0 where
   pub rounds : r.descent.rounds ≤ 40000000000
   pub at : r.descent.diff.at ≤ r.n
   pub iter : r.limits.iter ≤ 1000000
+  pub memory : r.gradient.memory ≤ 16
   pub fevals : (r.limits.fevals ≡ no_limit) ⊎ (r.limits.fevals ≤ 1000000)
   pub model : ModelPart r
   pub search : SearchPart r
 
-allowances : (r : Record) → (valid_options_of r ≡ true) ↔ ((r.limits.iter ≤ 1000000) × ((r.limits.fevals ≡ no_limit) ⊎ (r.limits.fevals ≤ 1000000)))
+options : (r : Record) → (valid_options_of r ≡ true) ↔ ((r.limits.iter ≤ 1000000) × ((r.gradient.memory ≤ 16) × ((r.limits.fevals ≡ no_limit) ⊎ (r.limits.fevals ≤ 1000000))))
 unfolding valid_options_of
-allowances r = both _ _ (at_most r.limits.iter 1000000) (either _ _ (equal r.limits.fevals no_limit) (last_at_most r.limits.fevals 1000000))
+options r =
+    both _ _ (at_most r.limits.iter 1000000)
+    (both _ _ (at_most r.gradient.memory 16) (either _ _ (equal r.limits.fevals no_limit) (last_at_most r.limits.fevals 1000000)))
 
-pub descent_part : (r : Record) → Descends r → (valid_descent_of r ≡ true) ↔ DescentPart r
+pub descent_part : (r : Record) → (valid_descent_of r ≡ true) ↔ DescentPart r
 unfolding valid_descent_of
-descent_part r j =
+descent_part r =
     let q = r.descent in
     let t =
     both _ _ (some r.n)
@@ -232,11 +261,11 @@ descent_part r j =
     (both _ _ (at_most q.phase 12)
     (both _ _ (denied _ (ending_part q))
     (both _ _ (at_most q.rounds 40000000000)
-    (both _ _ (at_most q.diff.at r.n) (both _ _ (denied _ (allowances r)) (both _ _ (denied _ (model_part r j)) (search_part r)))))))) in (
+    (both _ _ (at_most q.diff.at r.n) (both _ _ (denied _ (options r)) (both _ _ (denied _ (model_part r)) (search_part r)))))))) in (
       λ e.
           let (n, (l, (h, (y, (k, (a, (o, (m, s)))))))) = t.0 e in
-          record { some_n = n; phase_low = l; phase_high = h; ending = y; rounds = k; at = a; iter = o.0; fevals = o.1; model = m; search = s },
-      λ p. t.1 (p.some_n, (p.phase_low, (p.phase_high, (p.ending, (p.rounds, (p.at, ((p.iter, p.fevals), (p.model, p.search)))))))),
+          record { some_n = n; phase_low = l; phase_high = h; ending = y; rounds = k; at = a; iter = o.0; memory = o.1.0; fevals = o.1.1; model = m; search = s },
+      λ p. t.1 (p.some_n, (p.phase_low, (p.phase_high, (p.ending, (p.rounds, (p.at, ((p.iter, (p.memory, p.fevals)), (p.model, p.search)))))))),
     )
 
 -- of every record

@@ -8,6 +8,7 @@ use Rattle.protocol.specs.Protocol.{Reply, reply_of, simplex_mark, bfgs_mark, lb
 use Rattle.objective.specs.Step.{begun_of}
 use Rattle.linesearch_trials.specs.declared.Fixed as linesearchFixed
 use Rattle.linesearch.specs.Step.{failed}
+use Rattle.quasinewton_model.specs.declared.Model.{Model}
 use Rattle.quasinewton_model.specs.Step.{ModelInRange, blank_of as blankModel}
 use Rattle.quasinewton_record.specs.declared.Descent.{Descent}
 use Rattle.quasinewton_record.specs.declared.Fixed as quasinewtonFixed
@@ -125,34 +126,29 @@ valid_search_part_of r =
 unfoldable pub valid_search_of : Record → Bool
 valid_search_of r = cond (eqb r.n 0) false (cond (not (eqb r.descent.phase searching)) false (valid_search_part_of r))
 
--- the marks of a gradient fit that a refusal ended: what the tests of `strong_wolfe` make of the options and the line that a record holds (5, 6, 7 and 12 to 14, with their details), 18
--- and 19. They make none of its counts of coordinates: 9 is met at n 0 alone, 10 and 11 by lists of another length than n.
+-- the refusals that `strong_wolfe` makes, 18 and 19, each with its details: the marks of a gradient fit that a refusal ended
 unfoldable pub known_refusal_of : ℕ → ℕ → Bool
 known_refusal_of number detail =
     cond (eqb number 5) (cond (eqb detail 1) true (eqb detail 2))
     (cond (eqb number 12) (cond (eqb detail 0) false (leb detail 4))
     (cond (not (eqb detail 0)) false
-    (cond (eqb number 6) true
-    (cond (eqb number 7) true
-    (cond (eqb number 13) true
-    (cond (eqb number 14) true
-    (cond (eqb number 18) true (eqb number 19))))))))
+    (cond (ltb number 6) false
+    (cond (leb number 14) (not (eqb number 8))
+    (cond (eqb number 18) true (eqb number 19))))))
 
 unfoldable pub valid_ending_of : Descent → Bool
 valid_ending_of d = cond (eqb d.phase by_refusal) (known_refusal_of d.number d.detail) true
 
--- of a gradient fit's allowances: 2's limits
+-- of a gradient fit's options: 2's limits
 unfoldable pub valid_options_of : Record → Bool
-valid_options_of r = cond (ltb most_allowed r.limits.iter) false (cond (eqb r.limits.fevals no_limit) true (leb r.limits.fevals most_allowed))
-
--- of a gradient fit's model: which of the two it is, and of lbfgs the memory, the model's copy of it and "more pairs than memory"; "bfgs ignores memory"
-unfoldable pub valid_model_of : Record → Bool
-valid_model_of r =
-    cond (eqb r.job bfgs_mark) (not r.model.limited)
-    (cond (not r.model.limited) false
+valid_options_of r =
+    cond (ltb most_allowed r.limits.iter) false
     (cond (ltb 16 r.gradient.memory) false
-    (cond (not (eqb r.model.memory r.gradient.memory)) false
-    (leb r.model.pairs.count r.gradient.memory))))
+    (cond (eqb r.limits.fevals no_limit) true (leb r.limits.fevals most_allowed)))
+
+-- "more pairs than memory"
+unfoldable pub valid_model_of : Model → Bool
+valid_model_of m = cond (ltb 16 m.memory) false (leb m.pairs.count m.memory)
 
 -- of a gradient fit: n 0, an unknown mark, a count above 4·10^10, a position above n, and its options, model and search
 unfoldable pub valid_descent_of : Record → Bool
@@ -164,7 +160,7 @@ valid_descent_of r =
     (cond (ltb most r.descent.rounds) false
     (cond (ltb r.n r.descent.diff.at) false
     (cond (not (valid_options_of r)) false
-    (cond (not (valid_model_of r)) false (valid_search_part_of r))))))))
+    (cond (not (valid_model_of r.model)) false (valid_search_part_of r))))))))
 
 -- Refusal 1, for the parts that are there: "The record has n above 16 (or 0, other than for differences), a position above n, .. an option past 2's limits, an unknown mark
 -- or any count above 4·10^10." A part that the job does not use is not looked at.

@@ -1,6 +1,6 @@
 -- Refusal 1 as 01 lists it, phrase by phrase: "The record has n above 16 (or 0, other than for differences), a position above n, more pairs than memory, a line-search trial count above
 -- max_evals, an option past 2's limits, an unknown mark or any count above 4·10^10." Of a record the parts that its job uses count. Definitions and statements only.
-use Rattle.std.specs.Prelude.{ℕ, ◌≤◌, ◌<◌, ◌≡◌, true, false, ◌⊎◌, ◌↔◌, List, [], ◌∷◌}
+use Rattle.std.specs.Prelude.{ℕ, ◌≤◌, ◌<◌, ◌≡◌, true, ◌⊎◌, ◌↔◌, List, [], ◌∷◌}
 use Rattle.optim_record.specs.declared.Record.{Record}
 use Rattle.optim_record.specs.Record.{valid_of}
 use Rattle.protocol.specs.Protocol.{simplex_mark, bfgs_mark, lbfgs_mark, search_mark, differences_mark}
@@ -28,18 +28,19 @@ pub record PositionsWithin (r : Record) : Type 0 where
   pub trial : Searches r → r.descent.search.diff.at ≤ r.n
   pub coordinate : r.job ≡ differences_mark → r.diff.at ≤ r.n
 
--- "more pairs than memory"
+-- "more pairs than memory": the model's own, which a dense model has too
 abbrev pub PairsWithin : Record → Type 0
-PairsWithin r = r.job ≡ lbfgs_mark → r.model.pairs.count ≤ r.gradient.memory
+PairsWithin r = Descends r → r.model.pairs.count ≤ r.model.memory
 
 -- "a line-search trial count above max_evals"
 abbrev pub TrialsWithin : Record → Type 0
 TrialsWithin r = Searches r → r.descent.search.trials ≤ r.gradient.wolfe.evals
 
--- "an option past 2's limits": "memory is above 16, an allowance above 1,000,000, max_evals above 1,000 or restarts above 100"; "bfgs ignores memory, here and in 2".
--- Where a gradient fit has no max_fevals, its record has the Rust's usize::MAX
+-- "an option past 2's limits": "memory is above 16, an allowance above 1,000,000, max_evals above 1,000 or restarts above 100". Of both gradient fits the memory counts, the option
+-- and the model's. Where a gradient fit has no max_fevals, its record has the Rust's usize::MAX
 pub record OptionsWithin (r : Record) : Type 0 where
-  pub memory : r.job ≡ lbfgs_mark → r.gradient.memory ≤ 16
+  pub memory : Descends r → r.gradient.memory ≤ 16
+  pub held : Descends r → r.model.memory ≤ 16
   pub iter : (r.job ≡ simplex_mark) ⊎ Descends r → r.limits.iter ≤ 1000000
   pub fevals : r.job ≡ simplex_mark → r.limits.fevals ≤ 1000000
   pub gradient_fevals : Descends r → (r.limits.fevals ≡ 0xffff_ffff_ffff_ffff) ⊎ (r.limits.fevals ≤ 1000000)
@@ -55,24 +56,19 @@ OneOf k (j ∷ l) = (k ≡ j) ⊎ OneOf k l
 abbrev pub EndingMark : ℕ → ℕ → Type 0
 EndingMark number detail =
     ((number ≡ 5) × OneOf detail (1 ∷ 2 ∷ []))
-    ⊎ (((number ≡ 12) × OneOf detail (1 ∷ 2 ∷ 3 ∷ 4 ∷ [])) ⊎ ((detail ≡ 0) × OneOf number (6 ∷ 7 ∷ 13 ∷ 14 ∷ 18 ∷ 19 ∷ [])))
+    ⊎ (((number ≡ 12) × OneOf detail (1 ∷ 2 ∷ 3 ∷ 4 ∷ [])) ⊎ ((detail ≡ 0) × OneOf number (6 ∷ 7 ∷ 9 ∷ 10 ∷ 11 ∷ 13 ∷ 14 ∷ 18 ∷ 19 ∷ [])))
 
 -- "an unknown mark". Known are
 --   of every record: the jobs 1 simplex, 2 bfgs, 3 lbfgs, 4 search and 5 differences;
 --   of a simplex fit: the phases 1 to 6, which ask, and 7 to 11, its ends;
---   of a gradient fit: the phases 1 to 4, which ask, and 5 to 12, its ends, the last with the refusal that it is; the phases of its search, as below; for bfgs the dense model, for lbfgs
---   that of limited memory, with the option's memory: the start alone writes both;
+--   of a gradient fit: the phases 1 to 4, which ask, and 5 to 12, its ends, the last with the refusal that it is; the phases of its search, as below;
 --   of a search: the phase 4 of its descent, and of the search the phases 1 to 3, which ask, and 4 and 5, its ends.
--- Of every other flag both values are known, as starts or moves write both: adaptive, gradients, forward of differences, first of a descent, zooming, previous and kept of a search, and
--- fresh of a dense model.
+-- Of every flag both values are known.
 pub record MarksKnown (r : Record) : Type 0 where
   pub job : OneOf r.job (simplex_mark ∷ bfgs_mark ∷ lbfgs_mark ∷ search_mark ∷ differences_mark ∷ [])
   pub simplex : r.job ≡ simplex_mark → (1 ≤ r.simplex.phase) × (r.simplex.phase ≤ 11)
   pub descent : Descends r → (1 ≤ r.descent.phase) × (r.descent.phase ≤ 12)
   pub ending : Descends r → r.descent.phase ≡ 12 → EndingMark r.descent.number r.descent.detail
-  pub dense : r.job ≡ bfgs_mark → r.model.limited ≡ false
-  pub limited : r.job ≡ lbfgs_mark → r.model.limited ≡ true
-  pub memory : r.job ≡ lbfgs_mark → r.model.memory ≡ r.gradient.memory
   pub searching : r.job ≡ search_mark → r.descent.phase ≡ 4
   pub search : Searches r → (1 ≤ r.descent.search.phase) × (r.descent.search.phase ≤ 5)
 

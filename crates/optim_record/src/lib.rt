@@ -167,17 +167,11 @@ fn known_refusal(number: u64, detail: u64) -> bool
     if detail != 0 {
         return false;
     }
-    if number == 6 {
-        return true;
+    if number < 6 {
+        return false;
     }
-    if number == 7 {
-        return true;
-    }
-    if number == 13 {
-        return true;
-    }
-    if number == 14 {
-        return true;
+    if number <= 14 {
+        return number != 8;
     }
     if number == 18 {
         return true;
@@ -195,12 +189,16 @@ fn valid_ending(d: Descent) -> bool
     true
 }
 
-// Whether the allowances of a gradient fit are within the limits.
+// Whether the allowances and the memory of a gradient fit are within the limits.
 fn valid_options(r: Record) -> bool
     ensures { result ≡ valid_options_of r }
 {
     let limits = r.limits;
+    let o = r.gradient;
     if MOST_ALLOWED < limits.iter {
+        return false;
+    }
+    if 16 < o.memory {
         return false;
     }
     if limits.fevals == NO_LIMIT {
@@ -209,27 +207,15 @@ fn valid_options(r: Record) -> bool
     limits.fevals <= MOST_ALLOWED
 }
 
-// Whether the model of a gradient fit is its job's, and that of lbfgs holds no more pairs than its memory,
-// which is no more than sixteen. No other job has a memory.
-fn valid_model(r: Record) -> bool
-    ensures { result ≡ valid_model_of r }
+// Whether a model holds no more pairs than its memory, and that no more than sixteen.
+fn valid_model(m: Model) -> bool
+    ensures { result ≡ valid_model_of m }
 {
-    let o = r.gradient;
-    let m = r.model;
     let pairs = m.pairs;
-    if r.job == BFGS {
-        return !m.limited;
-    }
-    if !m.limited {
+    if 16 < m.memory {
         return false;
     }
-    if 16 < o.memory {
-        return false;
-    }
-    if m.memory as u64 != o.memory {
-        return false;
-    }
-    pairs.count as u64 <= o.memory
+    pairs.count <= m.memory
 }
 
 // Whether a record of the jobs bfgs and lbfgs is in range.
@@ -238,6 +224,7 @@ fn valid_descent(r: Record) -> bool
 {
     let d = r.descent;
     let diff = d.diff;
+    let m = r.model;
     if r.n == 0 {
         return false;
     }
@@ -259,7 +246,7 @@ fn valid_descent(r: Record) -> bool
     if !valid_options(r) {
         return false;
     }
-    if !valid_model(r) {
+    if !valid_model(m) {
         return false;
     }
     valid_search_part(r)

@@ -13,7 +13,7 @@ use Rattle.quasinewton_model.specs.Step.{ModelInRange}
 use Rattle.optim_record.specs.declared.Record.{Record}
 use Rattle.optim_record.specs.Record.{gradient_job_of, valid_of, Other, Ranges, Open, Stands}
 use Rattle.protocol.specs.Protocol.{simplex_mark, bfgs_mark, lbfgs_mark, search_mark, differences_mark}
-use Rattle.optim_record.specs.Refusal1.{OneOf, InRange}
+use Rattle.optim_record.specs.Refusal1.{Descends, OneOf, InRange}
 use Rattle.optim_record.proofs.Refusal1.{in_range}
 use Rattle.optim_reply.specs.Standing.{over_of, gradient_due_of}
 use Rattle.optim_rules.specs.Rules.{suits_of}
@@ -23,20 +23,17 @@ passed : (b x : Bool) → cond b false x ≡ true → (b ≡ false) × (x ≡ tr
 passed true x e = absurd (subst T (sym e) tt)
 passed false x e = (refl, e)
 
--- the model of a gradient fit is its job's
+-- the model of a gradient fit holds no more pairs than its memory
 model_ranges : (r : Record) → InRange r → gradient_job_of r.job ≡ true → ModelInRange r.model
 unfolding gradient_job_of
 model_ranges r h g = go (eqb r.job bfgs_mark) refl g
   where
-    limited : r.job ≡ lbfgs_mark → ModelInRange r.model
-    limited j = record { most = λ l. omega (arith, h.marks.memory j, h.options.memory j); within = λ l. omega (arith, h.marks.memory j, h.pairs j) }
-
-    dense : r.job ≡ bfgs_mark → ModelInRange r.model
-    dense j = record { most = λ l. absurd (true≢false (sym l ∙ h.marks.dense j)); within = λ l. absurd (true≢false (sym l ∙ h.marks.dense j)) }
+    within : Descends r → ModelInRange r.model
+    within j = record { most = λ l. h.options.held j; within = λ l. h.pairs j }
 
     go : (b : Bool) → eqb r.job bfgs_mark ≡ b → cond b true (eqb r.job lbfgs_mark) ≡ true → ModelInRange r.model
-    go true e i = dense (eqb-true _ _ e)
-    go false e i = limited (eqb-true _ _ i)
+    go true e i = within (inl (eqb-true _ _ e))
+    go false e i = within (inr (eqb-true _ _ i))
 
 -- none of the other jobs in range is that of differences
 other_job : (r : Record) → InRange r → Other r → r.job ≡ differences_mark

@@ -3,7 +3,7 @@ use Prim.Native.Nat.{ℕ, ◌+◌, ◌≤◌, ◌<◌}
 use native.Mathlib.Nat.{add-zero, le_trans}
 use native.Mathlib.Omega.{arith}
 use mathlib.Core.Path.{◌≡◌, refl, sym, ◌∙◌, ap, subst}
-use mathlib.Core.Bool.{Bool, true, false, not, cond}
+use mathlib.Core.Bool.{Bool, true, false, not, cond, true≢false}
 use mathlib.Core.List.{List}
 use lib.Dec.{eqb}
 use lib.ListN.{length, get_or}
@@ -35,28 +35,27 @@ use Rattle.optim_reply.specs.Standing.{gradient_due_of}
 use Rattle.optim.specs.Answer.{stepped_of, graded_of}
 use Rattle.optim_theory.proofs.Refusals.{Named, settled_named, told_named, told_gradient_named}
 use Rattle.optim_theory.proofs.Replies.{no_simplex, no_search}
-use Rattle.optim_theory.proofs.DescentRelated.{rest_of, ModelMarked, Sound, Low, asks, due_as}
+use Rattle.optim_theory.proofs.DescentRelated.{rest_of, NoPairs, Sound, Low, asks, due_as}
 use Rattle.optim_theory.proofs.DescentBounds.{Budget, bounding, bound_low, Within, settled_keeps}
 
 -- ---- the model of a record that has gone on
 
--- one of the same kind, with the same memory
-record Alike (m z : Model) : Type 0 where
-  limited : z.limited ≡ m.limited
-  memory : z.memory ≡ m.memory
-
-updated_alike : (m : Model) (s y : List Float) (n : ℕ) → Alike m (update_of m s y n)
+no_pairs_kept : (m : Model) (s y : List Float) (n : ℕ) → NoPairs m → NoPairs (update_of m s y n)
 unfolding update_of
-updated_alike m s y n = go m.limited
+no_pairs_kept m s y n h = go m.limited refl
   where
-    go : (b : Bool) → Alike m (cond b (record { limited = m.limited; memory = m.memory; dense = m.dense; pairs = limited_update_of m.pairs m.memory s y n })
-        (record { limited = m.limited; memory = m.memory; dense = dense_update_of m.dense s y n; pairs = m.pairs }))
-    go true = record { limited = refl; memory = refl }
-    go false = record { limited = refl; memory = refl }
+    z : Bool → Model
+    z b =
+        cond b (record { limited = m.limited; memory = m.memory; dense = m.dense; pairs = limited_update_of m.pairs m.memory s y n })
+        (record { limited = m.limited; memory = m.memory; dense = dense_update_of m.dense s y n; pairs = m.pairs })
 
-stored_alike : (fixed : Fixed) (q : Descent) (m : Model) (t : Evaluation) → Alike m (stored_of fixed q m t)
+    go : (b : Bool) → m.limited ≡ b → NoPairs (z b)
+    go true e = record { memory = λ i. absurd (true≢false (sym e ∙ i)); count = λ i. absurd (true≢false (sym e ∙ i)) }
+    go false e = record { memory = h.memory; count = h.count }
+
+stored_no_pairs : (fixed : Fixed) (q : Descent) (m : Model) (t : Evaluation) → NoPairs m → NoPairs (stored_of fixed q m t)
 unfolding stored_of
-stored_alike fixed q m t = go (stores_of s y n)
+stored_no_pairs fixed q m t h = go (stores_of s y n)
   where
     n : ℕ
     n = fixed.n
@@ -67,12 +66,9 @@ stored_alike fixed q m t = go (stores_of s y n)
     y : List Float
     y = difference_of t.g q.line.g n
 
-    go : (b : Bool) → Alike m (cond b (update_of m s y n) m)
-    go true = updated_alike m s y n
-    go false = record { limited = refl; memory = refl }
-
-still_marked : (job k : ℕ) (m z : Model) → ModelMarked job k m → Alike m z → ModelMarked job k z
-still_marked job k m z h a = record { dense = λ j. a.limited ∙ h.dense j; limited = λ j. a.limited ∙ h.limited j; memory = λ j. a.memory ∙ h.memory j }
+    go : (b : Bool) → NoPairs (cond b (update_of m s y n) m)
+    go true = no_pairs_kept m s y n h
+    go false = h
 
 -- it is the model as it was, or with one step stored
 record Models (P : Model → Type 0) (w : Moved) : Type 0 where
@@ -214,8 +210,7 @@ module _ (r : Record) (S : Sound r) (w : List Float) where
         named = settled_named fixed S.shape.positive heard r.model values (heard_named fixed S.shape.positive q w S.named);
         zeros = o.0;
         model = z.1;
-        marked = still_marked r.job r.gradient.memory r.model _ S.marked
-            (settled_model (Alike r.model) fixed heard r.model values (record { limited = refl; memory = refl }) (stored_alike fixed heard r.model heard.search.best)).holds;
+        dense = (settled_model NoPairs fixed heard r.model values S.dense (stored_no_pairs fixed heard r.model heard.search.best S.dense)).holds;
         model_zeros = o.1;
         iter = S.iter;
         fevals = S.fevals;

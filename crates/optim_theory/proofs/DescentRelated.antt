@@ -12,7 +12,7 @@ use lib.Ieee.{Float}
 use Rattle.vector.specs.Lists.{first}
 use Rattle.protocol.specs.declared.Kind.TheVariants.{Value, Gradient}
 use Rattle.protocol.specs.declared.Termination.TheVariants.{MaxIterations, MaxFevals, LineSearchFailed, GradientFailed}
-use Rattle.protocol.specs.Protocol.{converges, fitted, Reply, ask, ended, refused, bfgs_mark, lbfgs_mark}
+use Rattle.protocol.specs.Protocol.{converges, fitted, Reply, ask, ended, refused}
 use Rattle.protocol.specs.Ask.{Ask, finish, query, ◌>>=◌}
 use Rattle.protocol.specs.Rounds.{Ending, stops, fails, FitLimits, Kept, question_at, put}
 use Rattle.protocol.specs.Fits.{map_text}
@@ -46,11 +46,10 @@ rest_of r = to_do (gradient_fixed_of r) r.descent r.model
 abbrev pub shown_as : FitLimits → Record → Text → Reply × Kept all_fits.Position
 shown_as l r m = put all_fits l r.accepted r.counts.fevals r.counts.gevals (map_text inr m)
 
--- the model is its job's, and that of lbfgs has the memory k
-pub record ModelMarked (job k : ℕ) (m : Model) : Type 0 where
-  pub dense : job ≡ bfgs_mark → m.limited ≡ false
-  pub limited : job ≡ lbfgs_mark → m.limited ≡ true
-  pub memory : job ≡ lbfgs_mark → m.memory ≡ k
+-- a dense model has no pairs, and no memory for them
+pub record NoPairs (m : Model) : Type 0 where
+  pub memory : m.limited ≡ false → m.memory ≡ 0
+  pub count : m.limited ≡ false → m.pairs.count ≡ 0
 
 -- what holds of the record itself
 pub record Sound (r : Record) : Type 0 where
@@ -61,7 +60,7 @@ pub record Sound (r : Record) : Type 0 where
   pub named : Named r.descent
   pub zeros : DescentZeroPast r.n r.descent
   pub model : hessian.ModelSized r.model
-  pub marked : ModelMarked r.job r.gradient.memory r.model
+  pub dense : NoPairs r.model
   pub model_zeros : hessian.ModelZeroPast r.n r.model
   pub iter : r.limits.iter ≤ most_allowed
   pub fevals : (r.limits.fevals ≡ no_limit) ⊎ (r.limits.fevals ≤ most_allowed)
@@ -75,11 +74,17 @@ pub record Low (r : Record) : Type 0 where
 
 -- ---- it is in range
 
+model_within : (m : Model) → hessian.ModelSized m → NoPairs m → (m.memory ≤ 16) × (m.pairs.count ≤ m.memory)
+model_within m S N = go m.limited refl
+  where
+    go : (b : Bool) → m.limited ≡ b → (m.memory ≤ 16) × (m.pairs.count ≤ m.memory)
+    go true e = (S.range.most e, S.range.within e)
+    go false e = (omega (arith, N.memory e), omega (arith, N.count e))
+
 pub valid : (r : Record) → Sound r → Low r → valid_of r ≡ true
 valid r S L =
     let s = r.descent.search in
-    let R = S.model.range in
-    let M = S.marked in
+    let M = model_within r.model S.model S.dense in
     descent_valid r (gradient_marks r.job S.job)
     (record { few = S.shape.small; accepted = omega (arith, S.numbers, L.values, L.gradients); fevals = omega (arith, L.values); gevals = omega (arith, L.gradients) })
     (record {
@@ -90,8 +95,9 @@ valid r S L =
       rounds = omega (arith, S.shape.rounds, S.iter);
       at = S.shape.parts.diff.within;
       iter = S.iter;
+      memory = S.memory;
       fevals = S.fevals;
-      model = record { dense = M.dense; limited = M.limited; most = λ j. S.memory; copy = M.memory; pairs = λ j. omega (arith, R.within (M.limited j), M.memory j) };
+      model = record { most = M.0; pairs = M.1 };
       search = record {
         phase_low = S.shape.parts.search.least;
         phase_high = S.shape.parts.search.most;

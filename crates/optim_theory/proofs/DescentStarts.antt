@@ -21,7 +21,7 @@ use Rattle.protocol.specs.declared.Kind.{Kind}
 use Rattle.protocol.specs.declared.Kind.TheVariants.{Value, Gradient}
 use Rattle.protocol.specs.declared.GradientOptions.{GradientOptions}
 use Rattle.protocol.specs.declared.Refusal.{Refusal}
-use Rattle.protocol.specs.Protocol.{refusal, Reply, Job, bfgs, lbfgs, Fit, allowance_of, bfgs_mark, lbfgs_mark}
+use Rattle.protocol.specs.Protocol.{refusal, Reply, Job, bfgs, lbfgs, Fit, allowance_of}
 use Rattle.protocol.specs.Dialogue.{NotRefused}
 use Rattle.protocol.specs.Claim.{limit, unlimited, or_default, default_iter, default_fevals}
 use Rattle.protocol.specs.Ask.{finish, ◌>>=◌}
@@ -30,7 +30,7 @@ use Rattle.protocol.specs.Rounds.{fails, FitLimits, limits_of, put, engine}
 use Rattle.protocol.specs.Bounds.{of_both}
 use Rattle.protocol.specs.Fits.{map_text}
 use Rattle.quasinewton_model_theory.specs.Algorithm.{one}
-use Rattle.quasinewton_model.specs.Step.{new_model_of}
+use Rattle.quasinewton_model.specs.Step.{new_model_of, blank_of as blankModel}
 use Rattle.quasinewton_model_theory.proofs.Ties.{hessian_ties}
 use Rattle.quasinewton_record.specs.declared.Fixed.{Fixed}
 use Rattle.quasinewton.specs.Step.{start_of}
@@ -47,7 +47,7 @@ use Rattle.optim_start.specs.Start.{gradient_of, bfgs_of, lbfgs_of}
 use Rattle.optim_theory.specs.Engine.{start_code}
 use Rattle.optim_theory.proofs.Refusals.{start_named}
 use Rattle.optim_theory.proofs.EngineStarts.{by_given, excess_as, limit_as, whole, finite_as, decide}
-use Rattle.optim_theory.proofs.DescentRelated.{Text, rest_of, ModelMarked, Sound, shows}
+use Rattle.optim_theory.proofs.DescentRelated.{Text, rest_of, NoPairs, Sound, shows}
 use Rattle.optim_theory.proofs.DescentBounds.{Budget, bounding, Within}
 use Rattle.optim_theory.proofs.DescentMoves.{AsLimit, Bounded}
 use Rattle.optim_theory.proofs.DescentAnswers.{Texts, Relates}
@@ -235,16 +235,10 @@ module _ (limited : Bool) (o : GradientOptions) (a : Allowances) (x : List Float
   marked true = refl
   marked false = refl
 
-  new_marked : (b : Bool) (k : ℕ) → ModelMarked (gradient_mark_of b) k (new_model_of b k n)
-  unfolding new_model_of gradient_mark_of
-  new_marked true k = record { dense = λ z. absurd (apart z); limited = λ z. refl; memory = λ z. refl }
-    where
-      apart : lbfgs_mark ≡ bfgs_mark → ⊥
-      apart z = omega arith
-  new_marked false k = record { dense = λ z. refl; limited = λ z. absurd (apart z); memory = λ z. absurd (apart z) }
-    where
-      apart : bfgs_mark ≡ lbfgs_mark → ⊥
-      apart z = omega arith
+  new_no_pairs : (b : Bool) (m : ℕ) → NoPairs (new_model_of b m n)
+  unfolding new_model_of blankModel
+  new_no_pairs true m = record { memory = λ z. absurd (true≢false z); count = λ z. absurd (true≢false z) }
+  new_no_pairs false m = record { memory = λ z. refl; count = λ z. refl }
 
   by_memory : (P : ℕ → Type 0) → P 0 → (limited ≡ true → P o.memory) → P kept.memory
   by_memory P z h = go limited h
@@ -269,7 +263,7 @@ module _ (limited : Bool) (o : GradientOptions) (a : Allowances) (x : List Float
         named = start_named point;
         zeros = G.start_zeros point (λ k. point_laws.past (at x) n k);
         model = H.new_sized limited kept.memory (given_memory (λ k. 0 < k) filled) (given_memory (λ k. k ≤ 16) F.memory);
-        marked = new_marked limited kept.memory;
+        dense = new_no_pairs limited kept.memory;
         model_zeros = H.new_zeros limited kept.memory;
         iter = limit_low F.unknowns a.iter F.iterations;
         fevals = fevals_low a.fevals F.values;

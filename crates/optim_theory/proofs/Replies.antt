@@ -94,14 +94,17 @@ known_ends k d e = go ((known k d).0 e)
     go (inr (inl h)) = at 12 refl h.0
     go (inr (inr h)) = others h.1
       where
-        others : OneOf k (6 ∷ 7 ∷ 13 ∷ 14 ∷ 18 ∷ 19 ∷ []) → turns_away k ≡ false
+        others : OneOf k (6 ∷ 7 ∷ 9 ∷ 10 ∷ 11 ∷ 13 ∷ 14 ∷ 18 ∷ 19 ∷ []) → turns_away k ≡ false
         others (inl i) = at 6 refl i
         others (inr (inl i)) = at 7 refl i
-        others (inr (inr (inl i))) = at 13 refl i
-        others (inr (inr (inr (inl i)))) = at 14 refl i
-        others (inr (inr (inr (inr (inl i))))) = at 18 refl i
-        others (inr (inr (inr (inr (inr (inl i)))))) = at 19 refl i
-        others (inr (inr (inr (inr (inr (inr x)))))) = elim x [ ]
+        others (inr (inr (inl i))) = at 9 refl i
+        others (inr (inr (inr (inl i)))) = at 10 refl i
+        others (inr (inr (inr (inr (inl i))))) = at 11 refl i
+        others (inr (inr (inr (inr (inr (inl i)))))) = at 13 refl i
+        others (inr (inr (inr (inr (inr (inr (inl i))))))) = at 14 refl i
+        others (inr (inr (inr (inr (inr (inr (inr (inl i)))))))) = at 18 refl i
+        others (inr (inr (inr (inr (inr (inr (inr (inr (inl i))))))))) = at 19 refl i
+        others (inr (inr (inr (inr (inr (inr (inr (inr (inr x))))))))) = elim x [ ]
 
 known_fine : (r q : Record) (k d : ℕ) → known_refusal_of k d ≡ true → Fine r (refused k d, q)
 known_fine r q k d e = ending r q k d (first (known_refusal_of k d) _ e) (known_ends k d e)

@@ -1,5 +1,5 @@
 -- `optim_record::known_refusal` meets its contract: each return follows the calls and tests that led to it. Assumes nothing.
-use borrow.Author.Tests.{eq-eqb, ne_eqb}
+use borrow.Author.Tests.{eq-eqb, ne_eqb, lt-ltb, le-ltb, le-leb, lt-leb}
 use Rattle.optim_record.specs.Record.{known_refusal_of}
 use Rattle.optim_record.proofs.known_refusal.Goals as goal
 
@@ -23,31 +23,20 @@ pub returns-then-detail-ne0 : goal.returns-then-detail-ne0
 unfolding known_refusal_of
 returns-then-detail-ne0 c = rw (ne_eqb _ _ c.if-number-eq5.false, ne_eqb _ _ c.if-number-eq12.false, ne_eqb _ _ c.if-detail-ne0.true)
 
-pub returns-then-number-eq6 : goal.returns-then-number-eq6
+pub returns-then-number-lt6 : goal.returns-then-number-lt6
 unfolding known_refusal_of
-returns-then-number-eq6 c = rw (ne_eqb _ _ c.if-number-eq5.false, ne_eqb _ _ c.if-number-eq12.false, eq-eqb _ _ c.if-detail-ne0.false, eq-eqb _ _ c.if-number-eq6.true)
+returns-then-number-lt6 c = rw (ne_eqb _ _ c.if-number-eq5.false, ne_eqb _ _ c.if-number-eq12.false, eq-eqb _ _ c.if-detail-ne0.false, lt-ltb _ _ c.if-number-lt6.true)
 
-pub returns-then-number-eq7 : goal.returns-then-number-eq7
+pub returns-then-number-le14 : goal.returns-then-number-le14
 unfolding known_refusal_of
-returns-then-number-eq7 c =
-    rw (ne_eqb _ _ c.if-number-eq5.false, ne_eqb _ _ c.if-number-eq12.false, eq-eqb _ _ c.if-detail-ne0.false, ne_eqb _ _ c.if-number-eq6.false, eq-eqb _ _ c.if-number-eq7.true)
-
-pub returns-then-number-eq13 : goal.returns-then-number-eq13
-unfolding known_refusal_of
-returns-then-number-eq13 c =
-    rw (ne_eqb _ _ c.if-number-eq5.false, ne_eqb _ _ c.if-number-eq12.false, eq-eqb _ _ c.if-detail-ne0.false, ne_eqb _ _ c.if-number-eq6.false, ne_eqb _ _ c.if-number-eq7.false, eq-eqb _ _ c.if-number-eq13.true)
-
-pub returns-then-number-eq14 : goal.returns-then-number-eq14
-unfolding known_refusal_of
-returns-then-number-eq14 c =
-    rw (ne_eqb _ _ c.if-number-eq5.false, ne_eqb _ _ c.if-number-eq12.false, eq-eqb _ _ c.if-detail-ne0.false, ne_eqb _ _ c.if-number-eq6.false, ne_eqb _ _ c.if-number-eq7.false, ne_eqb _ _ c.if-number-eq13.false, eq-eqb _ _ c.if-number-eq14.true)
+returns-then-number-le14 c = rw (ne_eqb _ _ c.if-number-eq5.false, ne_eqb _ _ c.if-number-eq12.false, eq-eqb _ _ c.if-detail-ne0.false, le-ltb _ _ c.if-number-lt6.false, le-leb _ _ c.if-number-le14.true)
 
 pub returns-then-number-eq18 : goal.returns-then-number-eq18
 unfolding known_refusal_of
 returns-then-number-eq18 c =
-    rw (ne_eqb _ _ c.if-number-eq5.false, ne_eqb _ _ c.if-number-eq12.false, eq-eqb _ _ c.if-detail-ne0.false, ne_eqb _ _ c.if-number-eq6.false, ne_eqb _ _ c.if-number-eq7.false, ne_eqb _ _ c.if-number-eq13.false, ne_eqb _ _ c.if-number-eq14.false, eq-eqb _ _ c.if-number-eq18.true)
+    rw (ne_eqb _ _ c.if-number-eq5.false, ne_eqb _ _ c.if-number-eq12.false, eq-eqb _ _ c.if-detail-ne0.false, le-ltb _ _ c.if-number-lt6.false, lt-leb _ _ c.if-number-le14.false, eq-eqb _ _ c.if-number-eq18.true)
 
 pub returns : goal.returns
 unfolding known_refusal_of
 returns c =
-    rw (ne_eqb _ _ c.if-number-eq5.false, ne_eqb _ _ c.if-number-eq12.false, eq-eqb _ _ c.if-detail-ne0.false, ne_eqb _ _ c.if-number-eq6.false, ne_eqb _ _ c.if-number-eq7.false, ne_eqb _ _ c.if-number-eq13.false, ne_eqb _ _ c.if-number-eq14.false, ne_eqb _ _ c.if-number-eq18.false)
+    rw (ne_eqb _ _ c.if-number-eq5.false, ne_eqb _ _ c.if-number-eq12.false, eq-eqb _ _ c.if-detail-ne0.false, le-ltb _ _ c.if-number-lt6.false, lt-leb _ _ c.if-number-le14.false, ne_eqb _ _ c.if-number-eq18.false)
