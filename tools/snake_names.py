@@ -3,7 +3,7 @@
 
 usage: python3 tools/snake_names.py [--check] [--anyway] [--labels FOLDER] [FOLDER]
 
-Reads each name that an .antt file below FOLDER/crates declares, at the top level, as a field or as a constructor, and respells it: a hump
+Reads each name that an .antt file below FOLDER/crates declares, at the top level, as a field, as a constructor or by 'as', and respells it: a hump
 or a dash becomes an underscore, and a name that begins with a capital and has no dash is a type's and stays. What turns: whole words in
 .antt, .rt and .edit files and in code spans of the pages; strings stay, and so do functions of src/, which are in snake case. What the
 prover names stays: the goals that Answers.antt and Invariants.antt answer, and labels behind a dot in them. Those are read off the
@@ -24,6 +24,7 @@ HEAD = r"(?:(?:abbrev|unfoldable|pub|private|data|record|let|where|in|do|field|m
 DECLARED = re.compile(rf"(?m)^ *{HEAD}({NAME})(?: \{{[^{{}}\n]*\}})*(?: \([^()\n]*\))* :(?= |$)")
 NAMED = re.compile(rf"[{{;(] *({NAME}) :(?= )")
 TWO = re.compile(rf"(?m)^ *{HEAD}((?:{NAME} )+{NAME}) :(?= )")
+ALIAS = re.compile(rf"(?<=\S) as ({NAME})")
 MADE = re.compile(r"proofs/.+/(?:Answers|Invariants)\.antt$")
 # What a goal of the prover begins with.
 GOAL = re.compile(r"(?:returns|invariant|decreases)(?:-|$)")
@@ -33,7 +34,7 @@ FENCE = re.compile(r"^( *)(`{3,})[^\n`]*\n.*?^\1\2 *$", re.S | re.M)
 # Words of the papers that prose keeps outside code spans.
 QUOTED = {"totalOrder"}
 # Names whose plain respelling is taken where they stand.
-CLASHES = {"is-nan": "is_nan_lem"}
+CLASHES = {"is-nan": "is_nan_lem", "simplexAnswers": "engine_answers"}
 
 
 def snake(name):
@@ -83,6 +84,7 @@ def declared(text):
     code = bare(text)
     found = set(DECLARED.findall(code))
     found.update(NAMED.findall(code))
+    found.update(ALIAS.findall(code))
     for line in TWO.findall(code):
         found.update(line.split())
     return found

@@ -2,7 +2,7 @@
 use Rattle.std.specs.Prelude.{ℕ, ◌-◌, ◌≡◌, cond, List, [], ◌∷◌, ◌++◌, eqb, length, drop}
 use Rattle.lines_reader.specs.declared.Reader.{Reader}
 use Rattle.lines_reader.specs.Forms.{line_of}
-use Rattle.lines_reader.specs.Reader.{started_of, fed_of, finished_of, begun_of as lineBegun}
+use Rattle.lines_reader.specs.Reader.{started_of, fed_of, finished_of, begun_of as line_begun}
 use Rattle.lines_buffer.specs.Texts.{filled}
 use Rattle.fit_state.specs.declared.Scan.{Scan}
 use Rattle.fit_state.specs.declared.State.{State}
@@ -37,7 +37,7 @@ output_of bs = printed begun_of (lines_from [] bs)
 
 -- what is printed for bytes, from a state and a line as far as it has come
 unfoldable pub by_bytes : State → Reader → List ℕ → List ℕ
-by_bytes s r [] = cond (lineBegun r) (decided_of s (finished_of r)).0 []
+by_bytes s r [] = cond (line_begun r) (decided_of s (finished_of r)).0 []
 by_bytes s r (b ∷ bs) =
     cond (eqb b 10)
     (let t = decided_of s (finished_of r) in t.0 ++ by_bytes t.1 (started_of t.1.due) bs)

@@ -8,7 +8,7 @@ use Rattle.float.proofs.Tests.{by}
 use Rattle.lines_reader.specs.declared.LineRead.{LineRead}
 use Rattle.lines_reader.specs.declared.Reader.{Reader}
 use Rattle.lines_reader.specs.Forms.{empty, line_of, stopped}
-use Rattle.lines_reader.specs.Reader.{started_of, fed_of, fed_all, finished_of, begun_of as lineBegun}
+use Rattle.lines_reader.specs.Reader.{started_of, fed_of, fed_all, finished_of, begun_of as line_begun}
 use Rattle.lines_theory.proofs.Whole.{reader_laws}
 use Rattle.fit_dialogue.specs.declared.Place.{Place}
 use Rattle.fit_state.specs.declared.State.{State}
@@ -108,7 +108,7 @@ decided_stopped s l e = rw e
 
 silent : (s : State) (r : Reader) (bs : List ℕ) → s.due ≡ stopped → by_bytes s r bs ≡ []
 unfolding by_bytes
-silent s r [] e = by (lineBegun r) (λ p. rw (p, decided_stopped s (finished_of r) e)) (λ p. rw p)
+silent s r [] e = by (line_begun r) (λ p. rw (p, decided_stopped s (finished_of r) e)) (λ p. rw p)
 silent s r (b ∷ bs) e =
     by (eqb b 10)
     (λ p. to_line s r b bs p ∙ ap (after bs) (decided_stopped s (finished_of r) e) ∙ silent s (started_of s.due) bs e)

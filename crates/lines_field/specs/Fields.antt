@@ -1,7 +1,7 @@
 -- What each function of a field makes, for every struct that it is given. Definitions only.
 use Rattle.std.specs.Prelude.{ℕ, ◌+◌, ◌*◌, Bool, true, false, cond, eqb, leb, ltb}
 use Rattle.protocol.specs.declared.Kind.TheVariants.{Value, Gradient}
-use Rattle.protocol.specs.Protocol.{letter as kindLetter, simplex_mark, bfgs_mark, lbfgs_mark}
+use Rattle.protocol.specs.Protocol.{letter as kind_letter, simplex_mark, bfgs_mark, lbfgs_mark}
 use Rattle.lines_field.specs.declared.Sum.{Sum}
 use Rattle.lines_field.specs.declared.Field.{Field}
 use Rattle.lines_field.specs.declared.Reading.{Reading}
@@ -53,7 +53,7 @@ unfoldable pub flag_of : Field → Reading
 flag_of f = cond (spells_of f 1 48) (formed 0) (cond (spells_of f 1 49) (formed 1) malformed)
 
 unfoldable pub letter_of : Field → Reading
-letter_of f = cond (spells_of f 1 (kindLetter Value)) (formed (kindLetter Value)) (cond (spells_of f 1 (kindLetter Gradient)) (formed (kindLetter Gradient)) malformed)
+letter_of f = cond (spells_of f 1 (kind_letter Value)) (formed (kind_letter Value)) (cond (spells_of f 1 (kind_letter Gradient)) (formed (kind_letter Gradient)) malformed)
 
 unfoldable pub job_of : Field → Reading
 job_of f = cond (spells_of f 7 0x73696d706c6578) (formed simplex_mark) (cond (spells_of f 4 0x62666773) (formed bfgs_mark) (cond (spells_of f 5 0x6c62666773) (formed lbfgs_mark) malformed))

@@ -1,7 +1,7 @@
 -- What a field may be, over its bytes: one of six shapes. Definitions only.
 use Rattle.std.specs.Prelude.{ℕ, ◌+◌, ◌-◌, ◌*◌, Bool, true, false, ◌&&◌, cond, List, [], ◌∷◌, length, eqb, leb, ltb}
 use Rattle.protocol.specs.declared.Kind.TheVariants.{Value, Gradient}
-use Rattle.protocol.specs.Protocol.{letter as kindLetter, simplex_mark, bfgs_mark, lbfgs_mark}
+use Rattle.protocol.specs.Protocol.{letter as kind_letter, simplex_mark, bfgs_mark, lbfgs_mark}
 use Rattle.lines_field.specs.declared.Reading.{Reading}
 
 -- the largest u64
@@ -67,7 +67,7 @@ flag_field f = cond (same f (48 ∷ [])) (formed 0) (cond (same f (49 ∷ [])) (
 
 -- "a kind (V for a value, G for a gradient)"
 unfoldable pub letter_field : List ℕ → Reading
-letter_field f = cond (same f (kindLetter Value ∷ [])) (formed (kindLetter Value)) (cond (same f (kindLetter Gradient ∷ [])) (formed (kindLetter Gradient)) malformed)
+letter_field f = cond (same f (kind_letter Value ∷ [])) (formed (kind_letter Value)) (cond (same f (kind_letter Gradient ∷ [])) (formed (kind_letter Gradient)) malformed)
 
 -- "`simplex`, `bfgs` or `lbfgs`": the marks of these jobs
 unfoldable pub job_field : List ℕ → Reading

@@ -21,7 +21,7 @@ use Rattle.objective.specs.declared.Differences.{Differences}
 use Rattle.objective.specs.Algorithm as algorithm
 use Rattle.objective.specs.Step as step
 use Rattle.objective.specs.Follows as differences
-use Rattle.objective.proofs.Follows.{follows as differences-follow, told_within}
+use Rattle.objective.proofs.Follows.{follows as differences_follow, told_within}
 use Rattle.linesearch_trials.specs.declared.Evaluation.{Evaluation}
 use Rattle.linesearch_trials.specs.declared.Line.{Line}
 use Rattle.linesearch_trials.specs.declared.Fixed.{Fixed}
@@ -89,7 +89,7 @@ module _ (read : Float → Float) (fixed : Fixed) (l : Line) where
       go true j = refl
       go false j =
           let done : e.at ≡ n = omega (arith, ltb-false e.at n j) in
-          ap (λ (m : Ask (List Float)). m >>= (λ g. after read fixed l s (trial s.step s.value g))) ((differences-follow read).ends n e done) ∙ graded_does s e.g h
+          ap (λ (m : Ask (List Float)). m >>= (λ g. after read fixed l s (trial s.step s.value g))) ((differences_follow read).ends n e done) ∙ graded_does s e.g h
 
   -- the value is finite: its gradient is next
   gradient_does : (s : Search) → Within s
@@ -107,7 +107,7 @@ module _ (read : Float → Float) (fixed : Fixed) (l : Line) where
       go false =
           bind_assoc (algorithm.differences read (along s.step)) (λ g. finish (trial s.step s.value g)) (after read fixed l s)
           ∙ ap (λ (x : List Float). algorithm.differences read x >>= (λ g. after read fixed l s (trial s.step s.value g))) (point_is s.step)
-          ∙ ap (λ (m : Ask (List Float)). m >>= (λ g. after read fixed l s (trial s.step s.value g))) ((differences-follow read).begins n (point_at_of fixed l s.step))
+          ∙ ap (λ (m : Ask (List Float)). m >>= (λ g. after read fixed l s (trial s.step s.value g))) ((differences_follow read).begins n (point_at_of fixed l s.step))
           ∙ differing_does s (step.begun_of (point_at_of fixed l s.step)) h zero-le
 
   -- the trial's value is told
@@ -149,6 +149,6 @@ module _ (read : Float → Float) (fixed : Fixed) (l : Line) where
   unfolding probe_of told_of ◌>>=◌
   differing s p e h z i =
       rw (e, lt-ltb _ _ i)
-      (ap (λ (m : Ask (List Float)). m >>= (λ g. after read fixed l s (trial s.step s.value g))) ((differences-follow read).follows n s.diff z i)
+      (ap (λ (m : Ask (List Float)). m >>= (λ g. after read fixed l s (trial s.step s.value g))) ((differences_follow read).follows n s.diff z i)
       ∙ ap (query Value (first n (step.probe_of s.diff)))
       (fun_ext (λ w. differing_does (phased s asks_difference) (step.told_of s.diff (read (get_or w 0 nan))) h (told_within n s.diff (read (get_or w 0 nan)) i))))

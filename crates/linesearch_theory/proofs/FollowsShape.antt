@@ -17,7 +17,7 @@ use Rattle.vector.specs.Ties.{ZeroFrom}
 use Rattle.objective.specs.declared.Differences.{Differences}
 use Rattle.objective.specs.Step as step
 use Rattle.objective.specs.Follows as differences
-use Rattle.objective.proofs.Follows.{follows as differences-follow}
+use Rattle.objective.proofs.Follows.{follows as differences_follow}
 use Rattle.linesearch_trials.specs.declared.Trial.{Trial}
 use Rattle.linesearch_trials.specs.declared.Evaluation.{Evaluation}
 use Rattle.linesearch_trials.specs.declared.Line.{Line}
@@ -228,8 +228,8 @@ module _ (fixed : Fixed) (l : Line) where
         zeros_of = refl;
         point_of_lem = λ a. point_laws.width (λ i. at l.x i ⊕ a ⊗ at l.d i) fixed.n small;
         nans_of_lem = point_laws.width (λ i. nan) fixed.n small;
-        begun_of_lem = λ x e. (differences-follow (λ v. v)).begun_sized fixed.n x small e;
-        told_of_lem = λ e w i z. (differences-follow (λ v. v)).told_sized fixed.n e w z i;
+        begun_of_lem = λ x e. (differences_follow (λ v. v)).begun_sized fixed.n x small e;
+        told_of_lem = λ e w i z. (differences_follow (λ v. v)).told_sized fixed.n e w z i;
         gradient_of_lem = λ e z. z.gradient16;
       }
 
@@ -260,8 +260,8 @@ module _ (fixed : Fixed) (l : Line) where
         zeros_of = λ k i j. get_or-replicate 16 k plus_zero nan j;
         point_of_lem = λ a. point_laws.past (λ i. at l.x i ⊕ a ⊗ at l.d i) fixed.n;
         nans_of_lem = point_laws.past (λ i. nan) fixed.n;
-        begun_of_lem = λ x e. (differences-follow (λ v. v)).begun_zeros fixed.n x e;
-        told_of_lem = λ e w i z. (differences-follow (λ v. v)).told_zeros fixed.n e w i z;
+        begun_of_lem = λ x e. (differences_follow (λ v. v)).begun_zeros fixed.n x e;
+        told_of_lem = λ e w i z. (differences_follow (λ v. v)).told_zeros fixed.n e w i z;
         gradient_of_lem = λ e z. z.gradient;
       }
 
@@ -290,5 +290,5 @@ module _ (fixed : Fixed) (l : Line) where
       any false x y i j = j
 
       go : (b : Bool) → ltb s.diff.at fixed.n ≡ b → Zero (cond b (step.probe_of s.diff) s.diff.x)
-      go true i = (differences-follow (λ v. v)).probe_zeros fixed.n s.diff (ltb-true s.diff.at fixed.n i) z.diff
+      go true i = (differences_follow (λ v. v)).probe_zeros fixed.n s.diff (ltb-true s.diff.at fixed.n i) z.diff
       go false i = z.diff.point

@@ -22,7 +22,7 @@ use Rattle.neldermead_vertices.specs.Method.{alpha, beta, gamma}
 use Rattle.neldermead_theory.specs.Algorithm.{SimplexPosition, vertex, replaced, towards}
 use Rattle.neldermead_theory.specs.Phases.{Phase, Move, expanding, outside, inside, point_of, drawn, shrink_on, reflect_on}
 use Rattle.neldermead_vertices.specs.Vertices.{no_vertex, vertex_at}
-use Rattle.neldermead.specs.Step.{expanding as expandingMark, contracting_outside, contracting_inside, vertex_of, with_refl, trial_of, replaced_of, reflected_of, expanded_of, shrink_of, outside_of, inside_of}
+use Rattle.neldermead.specs.Step.{expanding as expanding_mark, contracting_outside, contracting_inside, vertex_of, with_refl, trial_of, replaced_of, reflected_of, expanded_of, shrink_of, outside_of, inside_of}
 use Rattle.neldermead_theory.specs.Ties.{lowered, VerticesTied}
 use Rattle.neldermead_theory.specs.Follows.{AtPosition, InRound, InTrial, Holds, mark_of, position_of, Related, RelatedMove, settled_move, SimplexAllows}
 use Rattle.neldermead_theory.proofs.Ties.{vertices_tied}
@@ -134,7 +134,7 @@ module _ (fit : Fixed) (l : FitLimits) (allows : SimplexAllows fit l) (v : ℕ) 
       unfolding reflected_of
       reflected_follows =
           decided _ _ (below_at 0 0 refl zero-le) _ _ (still (expanding p told)) _
-          (trial_related expandingMark (λ o n. alpha ⊗ beta o n) (expanding p told) refl refl refl (next_trial expandingMark _))
+          (trial_related expanding_mark (λ o n. alpha ⊗ beta o n) (expanding p told) refl refl refl (next_trial expanding_mark _))
           (decided _ _ (below_at (fit.n - 1) (p.n - 1) (rw position.count) (omega arith)) _ _ (ends (replaced p told)) _ (replaced_by next many p next_position next_round new told seen)
           (decided _ _ (below_at fit.n p.n position.count (le_refl fit.n)) _ _ (still (outside p told)) (still (inside p))
           (trial_related contracting_outside (λ o n. alpha ⊗ gamma o n) (outside p told) refl refl refl (next_trial contracting_outside _))

@@ -25,7 +25,7 @@ use Rattle.neldermead_theory.specs.Algorithm.{SimplexPosition, vertex, but_last,
 use Rattle.neldermead_theory.specs.Phases.{drawn}
 use Rattle.neldermead_vertices.specs.Vertices.{vertex_at, summed_of, centroid_of, corner_of, size_of, any_finite_of, flat_of, converged_of}
 use Rattle.neldermead_theory.specs.Ties.{lowered, lowered_to, Reads}
-use Rattle.neldermead_theory.proofs.CountsLengths.{corners_many as corners-length, others_length}
+use Rattle.neldermead_theory.proofs.CountsLengths.{corners_many as corners_length, others_length}
 use Rattle.neldermead_theory.proofs.TiesOrder.{get_d_map, many, vertex_at_lem, one_more, butlast_of}
 
 -- ---- the points of a new simplex
@@ -41,7 +41,7 @@ corner_in initial front (x ∷ xs) d (suc i) h =
     corner_in initial (front ++ (x ∷ [])) xs d i (omega arith) ∙ rw (append_snoc front x xs, place)
 
 pub corners_many : (n : ℕ) (initial : Float) (x : List Float) → length (corners initial [] (first n x)) ≡ n
-corners_many n initial x = corners-length initial [] (first n x) ∙ point_laws.listed n x
+corners_many n initial x = corners_length initial [] (first n x) ∙ point_laws.listed n x
 
 pub corner_at : (n : ℕ) → n ≤ 16 → (initial : Float) (x : List Float) → length x ≡ 16 → (d : List Float) (i : ℕ) → i < n
     → get_or (corners initial [] (first n x)) i d ≡ first n (corner_of initial x i)

@@ -18,7 +18,7 @@ use Rattle.neldermead.specs.declared.Simplex.{Simplex}
 use Rattle.neldermead_theory.specs.Algorithm.{SimplexPosition, vertex, centroid, corners, tests, nowhere, nelder_mead}
 use Rattle.neldermead_theory.specs.Phases.{Phase, building, reflecting, expanding, outside, inside, shrinking, point_of, Move, drawn, step_of, build_at, simplex_steps}
 use Rattle.neldermead_vertices.specs.Vertices.{vertex_at}
-use Rattle.neldermead.specs.Step.{building as buildingMark, reflecting as reflectingMark, expanding as expandingMark, contracting_outside, contracting_inside, shrinking as shrinkingMark, by_tolerance, by_resolution, by_simplex_iterations, by_simplex_fevals, not_finite, told_of, start_of}
+use Rattle.neldermead.specs.Step.{building as building_mark, reflecting as reflecting_mark, expanding as expanding_mark, contracting_outside, contracting_inside, shrinking as shrinking_mark, by_tolerance, by_resolution, by_simplex_iterations, by_simplex_fevals, not_finite, told_of, start_of}
 use Rattle.neldermead_theory.specs.Ties.{lowered, lowered_to}
 
 -- ---- what holds of the arrays
@@ -43,12 +43,12 @@ pub record SimplexShaped (n : ℕ) (s : Simplex) : Type 0 where
 
 -- the mark of a phase
 abbrev pub mark_of : Phase → ℕ
-mark_of (building p us x xs) = buildingMark
-mark_of (reflecting p) = reflectingMark
-mark_of (expanding p r) = expandingMark
+mark_of (building p us x xs) = building_mark
+mark_of (reflecting p) = reflecting_mark
+mark_of (expanding p r) = expanding_mark
 mark_of (outside p r) = contracting_outside
 mark_of (inside p) = contracting_inside
-mark_of (shrinking p us x xs) = shrinkingMark
+mark_of (shrinking p us x xs) = shrinking_mark
 
 -- the position of a phase
 abbrev pub position_of : Phase → SimplexPosition

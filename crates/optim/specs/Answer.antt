@@ -10,7 +10,7 @@ use Rattle.quasinewton_model.specs.declared.Model.{Model}
 use Rattle.quasinewton_record.specs.declared.Descent.{Descent}
 use Rattle.quasinewton.specs.Step as quasinewton
 use Rattle.neldermead.specs.declared.Simplex.{Simplex}
-use Rattle.neldermead.specs.Step.{told_of as simplexTold}
+use Rattle.neldermead.specs.Step.{told_of as simplex_told}
 use Rattle.optim_record.specs.declared.Record.{Record}
 use Rattle.optim_record.specs.Record.{fixed_of, search_fixed_of, gradient_fixed_of, gradient_job_of, valid_of}
 use Rattle.optim_reply.specs.Standing.{refused_of, over_of, gradient_due_of, standing_of}
@@ -39,7 +39,7 @@ unfoldable pub stepped_of : Record → Float → Record
 stepped_of r v =
     let d = r.descent in
     let q = quasinewton.settled_of (gradient_fixed_of r) (quasinewton.told_of (gradient_fixed_of r) d (read_of v)) r.model (r.counts.fevals + 1) in
-    cond (eqb r.job simplex_mark) (valued_of r r.diff (simplexTold (fixed_of r) r.simplex (read_of v) (r.counts.fevals + 1)) d r.model)
+    cond (eqb r.job simplex_mark) (valued_of r r.diff (simplex_told (fixed_of r) r.simplex (read_of v) (r.counts.fevals + 1)) d r.model)
     (cond (eqb r.job search_mark) (valued_of r r.diff r.simplex (quasinewton.with_search d (linesearch.told_of (search_fixed_of r) d.line d.search (read_of v) v)) r.model)
     (cond (gradient_job_of r.job) (valued_of r r.diff r.simplex q.descent q.model)
     (valued_of r (told_of r.diff v) r.simplex d r.model)))

@@ -16,9 +16,9 @@ use Rattle.linesearch_trials.specs.declared.Line.{Line}
 use Rattle.linesearch_trials.specs.Start.{options_refusal_of, counts_refusal_of}
 use Rattle.linesearch_trials.specs.Trials.{one}
 use Rattle.linesearch.specs.Step as linesearch
-use Rattle.quasinewton_model.specs.Step.{blank_of as blankModel, new_model_of}
+use Rattle.quasinewton_model.specs.Step.{blank_of as blank_model, new_model_of}
 use Rattle.quasinewton_record.specs.declared.Descent.{Descent}
-use Rattle.quasinewton.specs.Step.{searching, idle_of as idleDescent, start_of as quasinewtonStart}
+use Rattle.quasinewton.specs.Step.{searching, idle_of as idle_descent, start_of as quasinewton_start}
 use Rattle.neldermead.specs.Step.{start_of}
 use Rattle.optim_record.specs.declared.Limits.{Limits}
 use Rattle.optim_record.specs.declared.Record.{Record}
@@ -38,8 +38,8 @@ begun_record_of x =
       gradient = no_gradient_options;
       diff = begun_of (from_slice_of x (length x));
       simplex = idle_of;
-      descent = idleDescent;
-      model = blankModel;
+      descent = idle_descent;
+      model = blank_model;
     }
 
 -- ---- simplex
@@ -85,8 +85,8 @@ simplex_record_of point n o a =
       gradient = no_gradient_options;
       diff = begun_of (replicate 16 plus_zero);
       simplex = start_of point;
-      descent = idleDescent;
-      model = blankModel;
+      descent = idle_descent;
+      model = blank_model;
     }
 
 -- ---- search
@@ -130,7 +130,7 @@ search_record_of l n step o gradients =
       diff = begun_of (replicate 16 plus_zero);
       simplex = idle_of;
       descent = begun_search_of l n step o gradients;
-      model = blankModel;
+      model = blank_model;
     }
 
 -- ---- bfgs and, where `limited`, lbfgs
@@ -191,6 +191,6 @@ gradient_record_of point n o a limited =
       gradient = kept_options_of o limited;
       diff = begun_of (replicate 16 plus_zero);
       simplex = idle_of;
-      descent = quasinewtonStart point;
+      descent = quasinewton_start point;
       model = new_model_of limited (kept_options_of o limited).memory n;
     }

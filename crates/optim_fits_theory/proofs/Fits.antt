@@ -13,18 +13,18 @@ use Rattle.protocol.proofs.FitsLaws.{fits_laws}
 use Rattle.protocol.proofs.RoundsClaim.{claim_of_rounds}
 use Rattle.protocol.proofs.Counts.{counted}
 use Rattle.neldermead_theory.specs.Algorithm.{nelder_mead}
-use Rattle.neldermead_theory.proofs.Laws.{laws as simplex-laws}
-use Rattle.neldermead_theory.proofs.Counts.{counts as simplex-counts}
+use Rattle.neldermead_theory.proofs.Laws.{laws as simplex_laws}
+use Rattle.neldermead_theory.proofs.Counts.{counts as simplex_counts}
 use Rattle.quasinewton_theory.specs.Algorithm.{quasi_newton}
-use Rattle.quasinewton_theory.proofs.Laws.{ends_fit_lem, first_ends_fit, laws as gradient-laws}
-use Rattle.quasinewton_theory.proofs.Counts.{counts as gradient-counts}
+use Rattle.quasinewton_theory.proofs.Laws.{ends_fit_lem, first_ends_fit, laws as gradient_laws}
+use Rattle.quasinewton_theory.proofs.Counts.{counts as gradient_counts}
 use Rattle.optim_fits_theory.specs.Refusals.{RefusedBy, EndedBy}
 use Rattle.optim_fits_theory.specs.Fits.{all_fits, reference, NeverMet, FitsClaim}
 use Rattle.optim_fits_theory.proofs.RefusalsLists.{refused_by_lem}
 use Rattle.optim_fits_theory.proofs.Refusals.{fails_laws}
 
 pub all_laws : RoundsLaws all_fits IsSimplex
-all_laws = fits_laws nelder_mead quasi_newton simplex-laws gradient-laws
+all_laws = fits_laws nelder_mead quasi_newton simplex_laws gradient_laws
 
 pub mission : Claim reference
 mission = claim_of_rounds all_fits all_laws
@@ -60,8 +60,8 @@ pub fits_claim : FitsClaim
 fits_claim =
     record {
       mission = mission;
-      simplex_questions = simplex-counts quasi_newton;
-      gradient_questions = gradient-counts nelder_mead;
+      simplex_questions = simplex_counts quasi_newton;
+      gradient_questions = gradient_counts nelder_mead;
       counted = counted all_fits;
       refusals = refusals;
       never_13 = never_13;

@@ -6,13 +6,13 @@ use Rattle.protocol.specs.declared.WolfeOptions.{WolfeOptions}
 use Rattle.protocol.specs.declared.GradientOptions.{GradientOptions}
 use Rattle.protocol.specs.Protocol.{Reply, reply_of, simplex_mark, bfgs_mark, lbfgs_mark, search_mark, differences_mark}
 use Rattle.objective.specs.Step.{begun_of}
-use Rattle.linesearch_trials.specs.declared.Fixed as linesearchFixed
+use Rattle.linesearch_trials.specs.declared.Fixed as linesearch_fixed
 use Rattle.linesearch.specs.Step.{failed}
 use Rattle.quasinewton_model.specs.declared.Model.{Model}
-use Rattle.quasinewton_model.specs.Step.{ModelInRange, blank_of as blankModel}
+use Rattle.quasinewton_model.specs.Step.{ModelInRange, blank_of as blank_model}
 use Rattle.quasinewton_record.specs.declared.Descent.{Descent}
-use Rattle.quasinewton_record.specs.declared.Fixed as quasinewtonFixed
-use Rattle.quasinewton.specs.Step.{searching, by_refusal, idle_of as idleDescent}
+use Rattle.quasinewton_record.specs.declared.Fixed as quasinewton_fixed
+use Rattle.quasinewton.specs.Step.{searching, by_refusal, idle_of as idle_descent}
 use Rattle.neldermead_vertices.specs.declared.Vertex.{Vertex}
 use Rattle.neldermead.specs.declared.Fixed.{Fixed}
 use Rattle.neldermead.specs.declared.Simplex.{Simplex}
@@ -44,7 +44,7 @@ idle_of =
 
 -- the record of a refused start
 unfoldable pub blank_of : Record
-unfolding begun_of idle_of idleDescent
+unfolding begun_of idle_of idle_descent
 blank_of =
     record {
       accepted = 0;
@@ -56,8 +56,8 @@ blank_of =
       gradient = no_gradient_options;
       diff = begun_of (replicate 16 plus_zero);
       simplex = idle_of;
-      descent = idleDescent;
-      model = blankModel;
+      descent = idle_descent;
+      model = blank_model;
     }
 
 -- "any count above 4·10^10"
@@ -90,11 +90,11 @@ abbrev pub fixed_of : Record → Fixed
 fixed_of r = record { n = r.n; options = r.options; iter = r.limits.iter; fevals = r.limits.fevals }
 
 -- what the start of a search fixed
-abbrev pub search_fixed_of : Record → linesearchFixed.Fixed
+abbrev pub search_fixed_of : Record → linesearch_fixed.Fixed
 search_fixed_of r = record { n = r.n; gradients = r.gradient.gradients; options = r.gradient.wolfe }
 
 -- what the start of a gradient fit fixed
-abbrev pub gradient_fixed_of : Record → quasinewtonFixed.Fixed
+abbrev pub gradient_fixed_of : Record → quasinewton_fixed.Fixed
 gradient_fixed_of r = record { n = r.n; options = r.gradient; iter = r.limits.iter; fevals = r.limits.fevals }
 
 unfoldable pub gradient_job_of : ℕ → Bool

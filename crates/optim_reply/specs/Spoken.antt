@@ -8,11 +8,11 @@ use Rattle.protocol.specs.declared.Said.TheVariants.{Ask, Fitted, Searched, Diff
 use Rattle.protocol.specs.Protocol.{Reply, ask, ended, refused, reply_of, simplex_mark, search_mark}
 use Rattle.objective.specs.declared.Differences.{Differences}
 use Rattle.objective.specs.Step.{probe_of}
-use Rattle.linesearch_trials.specs.declared.Fixed as linesearchFixed
+use Rattle.linesearch_trials.specs.declared.Fixed as linesearch_fixed
 use Rattle.linesearch_trials.specs.declared.Line.{Line}
 use Rattle.linesearch_moves.specs.declared.Search.{Search}
 use Rattle.linesearch.specs.Step as linesearch
-use Rattle.quasinewton_record.specs.declared.Fixed as quasinewtonFixed
+use Rattle.quasinewton_record.specs.declared.Fixed as quasinewton_fixed
 use Rattle.quasinewton_record.specs.declared.Descent.{Descent}
 use Rattle.quasinewton.specs.Step as quasinewton
 use Rattle.neldermead_vertices.specs.declared.Vertex.{Vertex}
@@ -62,7 +62,7 @@ found_of s =
       g = s.best.g;
     }
 
-unfoldable pub search_spoken_of : ℕ → linesearchFixed.Fixed → Line → Search → Spoken
+unfoldable pub search_spoken_of : ℕ → linesearch_fixed.Fixed → Line → Search → Spoken
 search_spoken_of accepted fixed l s =
     let p = linesearch.probe_of fixed l s in
     cond (ltb linesearch.asks_difference s.phase) (found_of s)
@@ -77,7 +77,7 @@ descent_ended_of c phase rounds l =
       g = none;
     }
 
-unfoldable pub descent_spoken_of : ℕ → Counts → quasinewtonFixed.Fixed → Descent → Spoken
+unfoldable pub descent_spoken_of : ℕ → Counts → quasinewton_fixed.Fixed → Descent → Spoken
 descent_spoken_of accepted c fixed d =
     let p = quasinewton.probe_of fixed d in
     cond (quasinewton.asks_of d) (cond (quasinewton.gradient_due_of d) (asked_of accepted Gradient p) (asked_of accepted Value p))

@@ -7,7 +7,7 @@ use Rattle.linesearch.specs.Step as linesearch
 use Rattle.quasinewton_record.specs.declared.Descent.{Descent}
 use Rattle.quasinewton.specs.Step as quasinewton
 use Rattle.neldermead.specs.declared.Simplex.{Simplex}
-use Rattle.neldermead.specs.Step.{told_of as simplexTold}
+use Rattle.neldermead.specs.Step.{told_of as simplex_told}
 use Rattle.optim_record.specs.declared.Counts.{Counts}
 use Rattle.optim_record.specs.declared.Record.{Record}
 use Rattle.optim_record.specs.Record.{fixed_of, search_fixed_of, gradient_fixed_of}
@@ -25,7 +25,7 @@ Worded r words = (gradient_due_of r ≡ true → length words ≡ r.n) × (gradi
 
 -- the simplex, the descent of the job search and that of a gradient fit after an answer
 unfoldable pub simplex_told_of : Record → List Float → Simplex
-simplex_told_of r words = simplexTold (fixed_of r) r.simplex (read_of (get_or words 0 nan)) (r.counts.fevals + 1)
+simplex_told_of r words = simplex_told (fixed_of r) r.simplex (read_of (get_or words 0 nan)) (r.counts.fevals + 1)
 
 unfoldable pub search_told_of : Record → List Float → Descent
 search_told_of r words =

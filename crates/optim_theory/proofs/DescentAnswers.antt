@@ -33,7 +33,7 @@ use Rattle.optim_record.specs.Record.{gradient_fixed_of, valid_of}
 use Rattle.optim_reply.specs.Standing.{over_of, gradient_due_of, standing_of}
 use Rattle.optim_reply.proofs.Says.{stands_keeps}
 use Rattle.optim_rules.specs.Rules.{repeats_of, suits_of}
-use Rattle.optim.specs.Answer.{stepped_of, graded_of, taken_of, taken_gradient_of, heard_of as heardBy, answer_of}
+use Rattle.optim.specs.Answer.{stepped_of, graded_of, taken_of, taken_gradient_of, heard_of as heard_by, answer_of}
 use Rattle.optim_theory.specs.Engine.{answer_code}
 use Rattle.optim_theory.proofs.EngineAnswers.{repeats_as}
 use Rattle.optim_theory.proofs.DescentRelated.{Text, rest_of, shown_as, Sound, valid, asks, ended_by, over_as, due_as, shows}
@@ -98,7 +98,7 @@ module _ (r : Record) (S : Sound r) (b : Budget) (W : Bounded b r) (a : Answer) 
   -- in range, so the repeat rule comes first
   by_repeat : (k : Texts) (y : Reply) (z : Reply × Texts) → Relates r k → (standing_of r).0 ≡ y → Same k fresh_code z
       → Same k (answer_code r a) (cond (not (eqb r.accepted 0) && eqb a.number r.accepted) (y, k) z)
-  unfolding answer_of heardBy
+  unfolding answer_of heard_by
   by_repeat k y z h e f = rw (valid r S (low b r S W)) (both k (repeats_of r.accepted a.number) _ _ _ _ _ (repeats_as r.accepted a.number) (repeated k y h e) f)
 
   -- ---- the fit has ended

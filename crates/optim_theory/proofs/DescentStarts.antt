@@ -30,7 +30,7 @@ use Rattle.protocol.specs.Rounds.{fails, FitLimits, limits_of, put, engine}
 use Rattle.protocol.specs.Bounds.{of_both}
 use Rattle.protocol.specs.Fits.{map_text}
 use Rattle.quasinewton_model_theory.specs.Algorithm.{one}
-use Rattle.quasinewton_model.specs.Step.{new_model_of, blank_of as blankModel}
+use Rattle.quasinewton_model.specs.Step.{new_model_of, blank_of as blank_model}
 use Rattle.quasinewton_model_theory.proofs.Ties.{hessian_ties}
 use Rattle.quasinewton_record.specs.declared.Fixed.{Fixed}
 use Rattle.quasinewton.specs.Step.{start_of}
@@ -236,7 +236,7 @@ module _ (limited : Bool) (o : GradientOptions) (a : Allowances) (x : List Float
   marked false = refl
 
   new_no_pairs : (b : Bool) (m : ℕ) → NoPairs (new_model_of b m n)
-  unfolding new_model_of blankModel
+  unfolding new_model_of blank_model
   new_no_pairs true m = record { memory = λ z. absurd (true≢false z); count = λ z. absurd (true≢false z) }
   new_no_pairs false m = record { memory = λ z. refl; count = λ z. refl }
 

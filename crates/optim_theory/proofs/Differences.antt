@@ -28,7 +28,7 @@ use Rattle.objective.specs.Algorithm.{differences}
 use Rattle.objective.specs.Step.{begun_of, probe_of, told_of}
 use Rattle.objective.specs.Follows.{DifferencesSized, DifferencesZeroPast, to_do}
 use Rattle.objective.proofs.Follows.{follows}
-use Rattle.linesearch_theory.proofs.Counts.{counts as search-counts}
+use Rattle.linesearch_theory.proofs.Counts.{counts as search_counts}
 use Rattle.optim_record.specs.declared.Record.{Record}
 use Rattle.optim_record.specs.Record.{most, valid_of, Other}
 use Rattle.optim_record.proofs.Refusal1.{differences_valid}
@@ -235,7 +235,7 @@ differences_zeros x l n = (reached x n l).1.sound.zeros
 by_kind : (κ : Kind) (x : List Float) (l : List Answer) → NotRefused (differences_of x).0 → GivenF64s l → questions_of κ (differences_run x l).questions ≤ of_both κ (2 * length x) 0
 by_kind κ x l n w =
     subst (λ (qs : List Question). questions_of κ qs ≤ of_both κ (2 * length x) 0) (sym (same x n l w).questions)
-    (at_most differences_ending (record { asks_none = λ g. refl; takes_none = λ g a. refl }) κ _ (differences as_told x) (search-counts.gradient_costs κ as_told false x (length x) (omega arith)) l)
+    (at_most differences_ending (record { asks_none = λ g. refl; takes_none = λ g a. refl }) κ _ (differences as_told x) (search_counts.gradient_costs κ as_told false x (length x) (omega arith)) l)
 
 pub differences_at_most : DifferencesAtMost
 differences_at_most x l n w = omega (arith, all_questions (differences_run x l).questions, by_kind Value x l n w, by_kind Gradient x l n w)

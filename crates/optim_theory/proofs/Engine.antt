@@ -27,7 +27,7 @@ use Rattle.optim_theory.specs.Engine.{start_code, answer_code, code, CodeClaim, 
 use Rattle.optim_theory.proofs.Textual.{textual_laws}
 use Rattle.optim_theory.proofs.EngineRelated as simplexes
 use Rattle.optim_theory.proofs.EngineRelated.{gradient_steps, all_steps, Place}
-use Rattle.optim_theory.proofs.EngineAnswers as simplexAnswers
+use Rattle.optim_theory.proofs.EngineAnswers as engine_answers
 use Rattle.optim_theory.proofs.EngineStarts.{simplex_starts}
 use Rattle.optim_theory.proofs.DescentAnswers as descents
 use Rattle.optim_theory.proofs.DescentStarts.{bfgs_starts, lbfgs_starts}
@@ -59,7 +59,7 @@ Replied r k a = ((answer_code r a).0 ≡ (reference.answer k a).0) × Relates (a
 
 simplex_answers : (r : Record) (k : Texts) (a : Answer) → F64s a.words → Simplex r k → Replied r k a
 simplex_answers r k a w S =
-    let t = simplexAnswers.answers r S.place a S.relates in
+    let t = engine_answers.answers r S.place a S.relates in
     let u = places.answers S.place k a w S.stands in
     (t.0 ∙ u.0, inl (record { place = (answer_at all_fits all_steps S.place a).1; relates = t.1; stands = u.1 }), λ e. t.2 (places.stays S.place k a w S.stands e))
 

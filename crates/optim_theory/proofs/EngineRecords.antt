@@ -24,7 +24,7 @@ use Rattle.optim_start.specs.Start.{simplex_of, gradient_of, bfgs_of, lbfgs_of}
 use Rattle.optim_theory.specs.Engine.{start_code, answer_code, code, CodeInRange, GradientZeros, ZerosOf, Zeros}
 use Rattle.optim_theory.proofs.EngineRelated as simplexes
 use Rattle.optim_theory.proofs.EngineRelated.{Place}
-use Rattle.optim_theory.proofs.EngineAnswers as simplexAnswers
+use Rattle.optim_theory.proofs.EngineAnswers as engine_answers
 use Rattle.optim_theory.proofs.EngineStarts.{simplex_starts}
 use Rattle.optim_theory.proofs.DescentAnswers as descents
 use Rattle.optim_theory.proofs.DescentStarts.{bfgs_starts, lbfgs_starts}
@@ -93,7 +93,7 @@ abbrev DescentTied : Record → Type 0
 DescentTied r = (k : descents.Texts) × descents.Relates r k
 
 simplex_tied : (d : Dialogue Record) (l : List Answer) → SimplexTied d.record_now → SimplexTied (give_all code d l).record_now
-simplex_tied = along SimplexTied (λ r a h. (_, (simplexAnswers.answers r h.0 a h.1).1))
+simplex_tied = along SimplexTied (λ r a h. (_, (engine_answers.answers r h.0 a h.1).1))
 
 descent_tied : (d : Dialogue Record) (l : List Answer) → DescentTied d.record_now → DescentTied (give_all code d l).record_now
 descent_tied = along DescentTied (λ r a h. (_, (descents.answers r h.0 a h.1).1))
@@ -139,7 +139,7 @@ simplex_holds o a x l s =
     let f : Fit = record { job = simplex o; allowances = a; x0 = x } in
     let r = (run code f l).record_now in
     let t = simplex_tied (begin code f) l (_, (simplex_starts o a x).1 s) in
-    (simplexAnswers.valid_of_lem r t.0 t.1, subst (λ (n : ℕ). ZerosOf (simplex o) n r) (along_n f l (simplex_begins x o a) s) t.1.sound.zeros)
+    (engine_answers.valid_of_lem r t.0 t.1, subst (λ (n : ℕ). ZerosOf (simplex o) n r) (along_n f l (simplex_begins x o a) s) t.1.sound.zeros)
 
 -- of a record that is tied to a text
 descent_holds : (n : ℕ) (r : Record) → DescentTied r → r.n ≡ n → (valid_of r ≡ true) × GradientZeros n r

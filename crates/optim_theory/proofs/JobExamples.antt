@@ -12,7 +12,7 @@ use Rattle.objective.specs.Step as objective
 use Rattle.linesearch_trials.specs.Trials as trials
 use Rattle.linesearch_trials.specs.Start as lines
 use Rattle.linesearch.specs.Step as linesearch
-use Rattle.neldermead_vertices.specs.Order as vertexOrder
+use Rattle.neldermead_vertices.specs.Order as vertex_order
 use Rattle.neldermead_vertices.specs.Method as method
 use Rattle.neldermead_vertices.specs.Vertices as vertices
 use Rattle.neldermead.specs.Step as neldermead
@@ -32,7 +32,7 @@ unfolding to_bits of_bits of_fields of_int span climb size odd units round neg i
     differences.backward_of differences.slope_at objective.begun_of objective.probe_of objective.told_of records.gradient_job_of records.valid_simplex_of records.valid_of
     stands.over_of stands.gradient_due_of stands.standing_simplex_of stands.standing_differences_of stands.standing_of firsts.begun_record_of firsts.excess_of
     firsts.past_limits_of firsts.simplex_refusal_of firsts.limit_of firsts.simplex_limits_of firsts.simplex_record_of rules.repeats_of rules.suits_of answers.stepped_of
-    answers.taken_of answers.heard_of answers.answer_of starts.differences_of starts.simplex_of vertexOrder.in_order method.beta method.gamma method.delta
+    answers.taken_of answers.heard_of answers.answer_of starts.differences_of starts.simplex_of vertex_order.in_order method.beta method.gamma method.delta
     method.displaced method.resolution method.better vertices.put_of vertices.inserted_of vertices.sorted_of vertices.corner_of vertices.any_finite_of
     trials.start_of trials.armijo_of trials.curvature_of lines.line_from_of lines.options_refusal_of lines.counts_refusal_of lines.line_refusal_of linesearch.point_at_of
     linesearch.evaluated_of linesearch.preceding_of linesearch.risen_of linesearch.lower_of linesearch.keep_of linesearch.success_of linesearch.eval_of

@@ -18,7 +18,7 @@ use Rattle.linesearch_trials.specs.Start as lines
 use Rattle.linesearch.specs.Step as linesearch
 use Rattle.quasinewton_model.specs.Step as hessian
 use Rattle.quasinewton.specs.Step as quasinewton
-use Rattle.neldermead_vertices.specs.Order as vertexOrder
+use Rattle.neldermead_vertices.specs.Order as vertex_order
 use Rattle.neldermead_vertices.specs.Method as method
 use Rattle.neldermead_vertices.specs.Vertices as vertices
 use Rattle.neldermead.specs.Step as neldermead
@@ -66,7 +66,7 @@ unfolding to_bits of_bits of_fields of_int span climb size odd units round neg i
     firsts.excess_of firsts.past_limits_of firsts.simplex_refusal_of firsts.limit_of firsts.simplex_limits_of firsts.simplex_record_of
     firsts.gradient_past_limits_of firsts.ordered_of firsts.no_memory_of firsts.gradient_refusal_of firsts.gradient_limits_of firsts.kept_options_of
     firsts.gradient_mark_of firsts.gradient_record_of rules.repeats_of answers.stepped_of answers.graded_of answers.taken_of answers.taken_gradient_of
-    rules.suits_of answers.heard_of answers.answer_of starts.simplex_of starts.gradient_of starts.bfgs_of starts.lbfgs_of vertexOrder.in_order method.beta
+    rules.suits_of answers.heard_of answers.answer_of starts.simplex_of starts.gradient_of starts.bfgs_of starts.lbfgs_of vertex_order.in_order method.beta
     method.gamma method.delta method.displaced method.resolution method.better vertices.put_of vertices.inserted_of vertices.sorted_of vertices.summed_of
     vertices.centroid_of vertices.corner_of vertices.size_of vertices.any_finite_of vertices.flat_of vertices.converged_of neldermead.ordered_of
     neldermead.trial_of neldermead.reflect_of neldermead.reason_of neldermead.done_of neldermead.tested_of neldermead.headed_of neldermead.build_of

@@ -14,8 +14,8 @@ use Rattle.vector.specs.Points.{from_slice_of}
 use Rattle.protocol.specs.Protocol.{Question, Outcome, Reply, ask, ended, refused, read_of, simplex_mark, bfgs_mark, lbfgs_mark, search_mark}
 use Rattle.protocol.proofs.Replies.{ask≢refused, ended≢refused}
 use Rattle.objective.specs.Step.{told_of}
-use Rattle.neldermead.specs.Step.{not_finite, told_of as simplexTold}
-use Rattle.quasinewton_record.specs.declared.Fixed as quasinewtonFixed
+use Rattle.neldermead.specs.Step.{not_finite, told_of as simplex_told}
+use Rattle.quasinewton_record.specs.declared.Fixed as quasinewton_fixed
 use Rattle.quasinewton.specs.Step as quasinewton
 use Rattle.quasinewton.specs.Step.{by_refusal, Moved}
 use Rattle.optim_record.specs.declared.Record.{Record}
@@ -161,14 +161,14 @@ stepped_holds : (r : Record) (v : Float) → valid_of r ≡ true → Holds r →
 unfolding stepped_of
 stepped_holds r v e h = go (eqb r.job simplex_mark) refl (eqb r.job search_mark) refl (gradient_job_of r.job) refl
   where
-    fixed : quasinewtonFixed.Fixed
+    fixed : quasinewton_fixed.Fixed
     fixed = gradient_fixed_of r
 
     q : Moved
     q = quasinewton.settled_of fixed (quasinewton.told_of fixed r.descent (read_of v)) r.model (r.counts.fevals + 1)
 
     go : (a : Bool) → eqb r.job simplex_mark ≡ a → (b : Bool) → eqb r.job search_mark ≡ b → (c : Bool) → gradient_job_of r.job ≡ c
-        → Holds (cond a (valued_of r r.diff (simplexTold (fixed_of r) r.simplex (read_of v) (r.counts.fevals + 1)) r.descent r.model)
+        → Holds (cond a (valued_of r r.diff (simplex_told (fixed_of r) r.simplex (read_of v) (r.counts.fevals + 1)) r.descent r.model)
         (cond b (valued_of r r.diff r.simplex (quasinewton.with_search r.descent (linesearch.told_of (search_fixed_of r) r.descent.line r.descent.search (read_of v) v)) r.model)
         (cond c (valued_of r r.diff r.simplex q.descent q.model) (valued_of r (told_of r.diff v) r.simplex r.descent r.model))))
     go true i b j c k = h
@@ -180,7 +180,7 @@ graded_holds : (r : Record) (g : List Float) → valid_of r ≡ true → Holds r
 unfolding graded_of gradient_due_of
 graded_holds r g u h due = go (eqb r.job search_mark) refl due
   where
-    fixed : quasinewtonFixed.Fixed
+    fixed : quasinewton_fixed.Fixed
     fixed = gradient_fixed_of r
 
     q : Moved

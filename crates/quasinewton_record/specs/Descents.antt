@@ -6,7 +6,7 @@ use Rattle.objective.specs.declared.Differences.{Differences}
 use Rattle.objective.specs.Step as objective
 use Rattle.linesearch_trials.specs.declared.Line.{Line}
 use Rattle.linesearch_moves.specs.declared.Search.{Search}
-use Rattle.linesearch_trials.specs.declared.Fixed as linesearchFixed
+use Rattle.linesearch_trials.specs.declared.Fixed as linesearch_fixed
 use Rattle.linesearch.specs.Step as linesearch
 use Rattle.quasinewton_record.specs.declared.Fixed.{Fixed}
 use Rattle.quasinewton_record.specs.declared.Descent.{Descent}
@@ -77,7 +77,7 @@ module _ (q : Descent) where
   valued_at x f = record { x = x; g = q.line.g; d = q.line.d; f = f; slope = q.line.slope }
 
 -- what the search's start fixes
-abbrev pub search_fixed : Fixed → linesearchFixed.Fixed
+abbrev pub search_fixed : Fixed → linesearch_fixed.Fixed
 search_fixed fixed = record { n = fixed.n; gradients = fixed.options.gradients; options = fixed.options.wolfe }
 
 -- ---- what it waits for

@@ -35,7 +35,7 @@ use Rattle.linesearch_trials.specs.declared.Evaluation.{Evaluation}
 use Rattle.linesearch_trials.specs.declared.Line.{Line}
 use Rattle.linesearch_theory.specs.Algorithm.{Searched, refuses, gives, search, wolfe_refusal, line_from, strong_wolfe}
 use Rattle.linesearch_theory.specs.Counts.{per_gradient, per_trial}
-use Rattle.linesearch_theory.proofs.Counts.{counts as search-counts}
+use Rattle.linesearch_theory.proofs.Counts.{counts as search_counts}
 use Rattle.quasinewton_theory.specs.Algorithm.{GradientPosition, stepped, small_decrease, small_step, stops_lower, succeeded, concluded, initial_step, searched, not_descending, iterated, round, with_gradient, with_value, opened, opening, begun_with, quasi_newton}
 use Rattle.quasinewton_theory.specs.Counts.{with_gradients, without_gradients, GradientBounds, GradientJob, GradientCounts}
 use Rattle.quasinewton_theory.proofs.Laws.{opening_case, no_restart}
@@ -91,7 +91,7 @@ module _ (κ : Kind) (n : ℕ) where
           cond_costs κ most (eqb (wolfe_refusal p.options.wolfe p.x d p.f p.g step).number 0) (m >>= λ r. finish (gives r)) _ Given
           (costs_more κ (most + 0) most (m >>= λ r. finish (gives r)) Given (omega arith)
           (costs_bind κ most 0 m (λ r. finish (gives r)) (λ r. length r.at.x ≤ n) Given
-          (search-counts.search_costs κ read_of p.options.gradients p.options.wolfe l step n short) (λ r h. h)))
+          (search_counts.search_costs κ read_of p.options.gradients p.options.wolfe l step n short) (λ r h. h)))
           tt
 
       searched_costs : (d : List Float) → Costs κ most (searched p d) Q
@@ -115,7 +115,7 @@ module _ (κ : Kind) (n : ℕ) where
       costs_bind κ (of_kind κ Value) per (ask_value read_of x) (with_value limits o x) (λ v. Unit {0}) (End o 0) (0, omega arith, λ w. tt)
       (λ v u. cond_costs κ per (not (finite_of v)) (finish (fails 18 0)) (graded v) (End o 0) tt
       (costs_more κ (per + 0) per (graded v) (End o 0) (omega arith)
-      (costs_bind κ per 0 m (λ g. finish (with_gradient limits o x v g)) (λ g. Unit {0}) (End o 0) (search-counts.gradient_costs κ read_of o.gradients x n h)
+      (costs_bind κ per 0 m (λ g. finish (with_gradient limits o x v g)) (λ g. Unit {0}) (End o 0) (search_counts.gradient_costs κ read_of o.gradients x n h)
       (λ g t. by_cond (End o 0) (not (all_finite g)) _ _ (λ i. tt) (λ i. (h, refl, refl))))))
     where
       per : ℕ

@@ -16,7 +16,7 @@ use Rattle.protocol.specs.Protocol.{read_of}
 use Rattle.objective.specs.declared.Differences.{Differences}
 use Rattle.objective.specs.Step as objective
 use Rattle.objective.specs.Follows as differences
-use Rattle.objective.proofs.Follows.{follows as differences-follow}
+use Rattle.objective.proofs.Follows.{follows as differences_follow}
 use Rattle.quasinewton_model.specs.declared.Model.{Model}
 use Rattle.quasinewton_model.specs.Step.{update_of}
 use Rattle.quasinewton_model_theory.specs.Ties as hessian
@@ -48,7 +48,7 @@ start_zeros : (n : ℕ) (x : List Float) → ZeroFrom n x → DescentZeroPast n 
 unfolding start_of
 start_zeros n x h =
     let none = zeros_zero n in
-    let diff = (differences-follow read_of).begun_zeros n zeros none in
+    let diff = (differences_follow read_of).begun_zeros n zeros none in
     record { point = h; gradient = none; direction = none; search = record { point = none; gradient = none; diff = diff }; diff = diff }
 
 module _ (fixed : Fixed) (small : fixed.n ≤ 16) where
@@ -77,8 +77,8 @@ module _ (fixed : Fixed) (small : fixed.n ≤ 16) where
         search_begun = λ l a x g. (searching_on l).begun_shaped a small (line16 l x g);
         search_told = λ l s v x g h. (searching_on l).told_shaped s v v (line16 l x g) h;
         search_graded = λ l s g i x y h. (searching_on l).told_gradient_shaped s g i (line16 l x y) h;
-        diff_begun = λ x h. (differences-follow read_of).begun_sized n x small h;
-        diff_told = λ e v i h. (differences-follow read_of).told_sized n e v h i;
+        diff_begun = λ x h. (differences_follow read_of).begun_sized n x small h;
+        diff_told = λ e v i h. (differences_follow read_of).told_sized n e v h i;
         diff_gradient = λ e h. h.gradient16;
       }
 
@@ -107,8 +107,8 @@ module _ (fixed : Fixed) (small : fixed.n ≤ 16) where
         search_begun = λ l a x g. (sizes.search_begun l a x.0 g.0, (searching_on l).begun_zeros a (line_zeros l x g));
         search_told = λ l s v x g h. (sizes.search_told l s v x.0 g.0 h.0, (searching_on l).told_zeros s v v (line_zeros l x g) h.0 h.1);
         search_graded = λ l s g i x y h. (sizes.search_graded l s g i.0 x.0 y.0 h.0, (searching_on l).told_gradient_zeros s g i.1 (line_zeros l x y) h.0 h.1);
-        diff_begun = λ x h. (sizes.diff_begun x h.0, (differences-follow read_of).begun_zeros n x h.1);
-        diff_told = λ e v i h. (sizes.diff_told e v i h.0, (differences-follow read_of).told_zeros n e v i h.1);
+        diff_begun = λ x h. (sizes.diff_begun x h.0, (differences_follow read_of).begun_zeros n x h.1);
+        diff_told = λ e v i h. (sizes.diff_told e v i h.0, (differences_follow read_of).told_zeros n e v i h.1);
         diff_gradient = λ e h. (h.0.gradient16, h.1.gradient);
       }
 
@@ -163,10 +163,10 @@ module _ (fixed : Fixed) (small : fixed.n ≤ 16) where
                     trials = zero-le;
                     point16 = zeros16;
                     gradient16 = zeros16;
-                    diff = (differences-follow read_of).begun_sized n zeros small zeros16;
+                    diff = (differences_follow read_of).begun_sized n zeros small zeros16;
                     asked = λ e. omega (arith, e);
                   };
-              diff = (differences-follow read_of).begun_sized n zeros small zeros16;
+              diff = (differences_follow read_of).begun_sized n zeros small zeros16;
             };
       }
 
@@ -274,7 +274,7 @@ module _ (fixed : Fixed) (small : fixed.n ≤ 16) where
       (pick (not (eqb q.phase first_differences)) _ _ h.point (go (ltb q.diff.at n) refl))
     where
       go : (b : Bool) → ltb q.diff.at n ≡ b → ZeroFrom n (cond b (objective.probe_of q.diff) q.diff.x)
-      go true e = (differences-follow read_of).probe_zeros n q.diff (ltb-true q.diff.at n e) h.diff
+      go true e = (differences_follow read_of).probe_zeros n q.diff (ltb-true q.diff.at n e) h.diff
       go false e = h.diff.point
 
 pub gradient_follows : (fixed : Fixed) → GradientFollows fixed

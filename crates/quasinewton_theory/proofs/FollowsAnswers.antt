@@ -20,7 +20,7 @@ use Rattle.objective.specs.declared.Differences.{Differences}
 use Rattle.objective.specs.Algorithm as algorithm
 use Rattle.objective.specs.Step as objective
 use Rattle.objective.specs.Follows as differences
-use Rattle.objective.proofs.Follows.{follows as differences-follow, told_within}
+use Rattle.objective.proofs.Follows.{follows as differences_follow, told_within}
 use Rattle.quasinewton_model.specs.declared.Model.{Model}
 use Rattle.linesearch_moves.specs.declared.Search.{Search}
 use Rattle.linesearch.specs.Step as linesearch
@@ -65,7 +65,7 @@ module _ (fixed : Fixed) (m : Model) where
       go true j = refl
       go false j =
           let done : e.at ≡ n = omega (arith, ltb-false e.at n j) in
-          ap (λ (t : Ask (List Float)). t >>= (λ g. finish (graded (at q) g))) ((differences-follow read_of).ends n e done) ∙ graded_does q e.g
+          ap (λ (t : Ask (List Float)). t >>= (λ g. finish (graded (at q) g))) ((differences_follow read_of).ends n e done) ∙ graded_does q e.g
 
   valued_does : (q : Descent) (v : Float) → valued (at q) v ≡ does (valued_of fixed q v)
   unfolding valued_of objective.begun_of ◌>>=◌
@@ -83,7 +83,7 @@ module _ (fixed : Fixed) (m : Model) where
       go false c = refl
       go true true = rw (point_laws.listed n q.line.x)
       go true false =
-          ap (λ (t : Ask (List Float)). t >>= (λ g. finish (graded (at w) g))) ((differences-follow read_of).begins n q.line.x)
+          ap (λ (t : Ask (List Float)). t >>= (λ g. finish (graded (at w) g))) ((differences_follow read_of).begins n q.line.x)
           ∙ differing_does w (objective.begun_of q.line.x) zero-le
 
   -- ---- the open question, by its phase
@@ -106,7 +106,7 @@ module _ (fixed : Fixed) (m : Model) where
   unfolding probe_of told_of ◌>>=◌
   differing q p e z i =
       rw (e, lt-ltb _ _ i)
-      (ap (λ (t : Ask (List Float)). t >>= (λ g. finish (graded (at q) g))) ((differences-follow read_of).follows n q.diff z i)
+      (ap (λ (t : Ask (List Float)). t >>= (λ g. finish (graded (at q) g))) ((differences_follow read_of).follows n q.diff z i)
       ∙ ap (query Value (first n (objective.probe_of q.diff)))
       (fun_ext (λ w. differing_does (in_phase q first_differences) (objective.told_of q.diff (read_of (get_or w 0 nan))) (told_within n q.diff (read_of (get_or w 0 nan)) i))))
 
