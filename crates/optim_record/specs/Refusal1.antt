@@ -1,5 +1,6 @@
 -- Refusal 1 as 01 lists it, phrase by phrase: "The record has n above 16 (or 0, other than for differences), a position above n, more pairs than memory, a line-search trial count above
--- max_evals, an option past 2's limits, an unknown mark or any count above 4·10^10." Of a record the parts that its job uses count. Definitions and statements only.
+-- max_evals, an option past 2's limits, an unknown mark or any count above 4·10^10." Of a record the parts that its job uses count; of bfgs memory counts as of lbfgs. Definitions and
+-- statements only.
 use Rattle.std.specs.Prelude.{ℕ, ◌≤◌, ◌<◌, ◌≡◌, true, ◌⊎◌, ◌↔◌, List, [], ◌∷◌}
 use Rattle.optim_record.specs.declared.Record.{Record}
 use Rattle.optim_record.specs.Record.{valid_of}
