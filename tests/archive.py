@@ -3,16 +3,21 @@
 
 It holds the functions that CRATE exports, and what they call. The crate is proved once more, over the libraries that `rt ci`,
 `rt check` or `rt lib` left below it; where these are not there, or are not those of the files as they are, `rt lib` builds them
-first. It fails (exit status 1) where a crate is not proved.
+first. It fails (exit status 1) where a crate is not proved. An archive that C callers had under another name has that name too.
 """
 import os
 import pathlib
+import shutil
 import subprocess
 import sys
 
 sys.dont_write_bytecode = True
 sys.path.insert(0, str(pathlib.Path(__file__).resolve().parent))
 import kit  # noqa: E402
+
+
+# The name that an archive had first, beside its crate's.
+FIRST = {"c_api": "fit_c"}
 
 
 def built(crate):
@@ -40,6 +45,8 @@ def main():
             said = "rt lib built no library" if libraries.returncode else built(crate)
         if said:
             sys.exit(f"{said}\n{crate}: no archive")
+        if crate in FIRST:
+            shutil.copyfile(f"crates/{crate}/out/lib{crate}.a", f"crates/{crate}/out/lib{FIRST[crate]}.a")
         print(f"crates/{crate}/out/lib{crate}.a", flush=True)
 
 

@@ -95,6 +95,8 @@ SAYS='rt: float proved\nrt: vec' STATUS=9 due "rt ci is killed" "0 passed, 1 fai
 SAYS='' STATUS=2 due "rt ci prints nothing" "0 passed, 1 failed" 1
 SAYS='' STATUS=0 due "rt ci prints nothing, status 0" "0 passed, 1 failed" 1
 SAYS='rt: ok\n' STATUS=0 due "rt ci has no last line" "0 passed, 1 failed" 1 "rt: ok"
+SAYS='rt: ok; must-fail edits: 3 refused, 2 bad; done\n7 passed, 0 failed\n' due "a bad edit" "7 passed, 1 failed" 1 "ran guide.py" "---- rt ci: FAILED, 2 bad edits"
+SAYS='rt: ok; must-fail edits: 3 refused, 0 bad; done\n7 passed, 0 failed\n' due "no bad edit" "7 passed, 0 failed" 0
 SAYS='7 passed, 0 failed\nrt: cannot go on\n' STATUS=0 due "a tally that is not the last line" "0 passed, 1 failed" 1
 SAYS='7 passed, 0 failed, or so\n' STATUS=0 due "no tally" "0 passed, 1 failed" 1
 

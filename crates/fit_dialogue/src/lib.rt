@@ -10,7 +10,7 @@ ghost use Rattle.fit_dialogue.specs.Talk.{decided_of};
 ghost use Rattle.fit_dialogue.specs.Program.{by_bytes, first_place, Stepped};
 
 use fit_line::{first, heard, second, second_gradient, third};
-pub use fit_state::{State, Turn, begun, scanned};
+pub use fit_state::{Scan, State, Turn, begun, scanned};
 use lines_options::{LineRead, Reader};
 use lines_reader::{ANSWERS, GRADIENT_LINE2, LINE1, LINE3, SIMPLEX_LINE2};
 

@@ -5,8 +5,8 @@
 ghost use Rattle.std.specs.Prelude.{◌≡◌};
 ghost use Rattle.lines_options.specs.Options.{allowance_in, simplex_line_of, gradient_line_of};
 
-pub use lines_field::{Field, Reading};
-pub use lines_forms::{answer_line, first_line, point_line};
+pub use lines_field::{Field, Reading, Sum};
+pub use lines_forms::{AnswerLine, FirstLine, PointLine, answer_line, first_line, point_line};
 use lines_forms::{whole, words};
 pub use lines_reader::{LineRead, Reader, begun, fed, finished, started};
 use protocol::{Allowance, Allowances, GradientOptions, SimplexOptions, WolfeOptions};

@@ -1,4 +1,4 @@
--- The engine that runs simplex fits alone satisfies the mission's 3 (`claim`). Assumes nothing.
+-- The engine that runs simplex fits alone satisfies the mission's 3 (`claim`), and puts no more questions than 01 allows (`at_most`). Assumes nothing.
 use Rattle.protocol.specs.RoundsLaws.{RoundsLaws}
 use Rattle.protocol.specs.Fits.{fits}
 use Rattle.protocol.proofs.FitsLaws.{fits_laws}
@@ -23,3 +23,6 @@ gradientless_laws =
 
 pub claim : SimplexClaim
 claim = claim_of_rounds (fits nelder_mead gradientless) (fits_laws nelder_mead gradientless laws gradientless_laws)
+
+pub at_most : SimplexCounts gradientless
+at_most = counts gradientless

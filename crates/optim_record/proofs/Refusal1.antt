@@ -101,7 +101,7 @@ in_range r v =
       unknowns = record { most = c.few; some = λ d. some_unknown r e d (job_known r e) };
       positions = record {
         vertex = λ j. (of_simplex r e j).vertex;
-        first_gradient_lem = λ j. (of_descent r e j).at;
+        opening = λ j. (of_descent r e j).at;
         trial = λ j. (of_search r e j).at;
         coordinate = λ j. leb-true r.diff.at r.n (sym (at_differences r j) ∙ e);
       };
@@ -163,7 +163,7 @@ module _ (r : Record) (h : InRange r) where
         phase_high = (h.marks.descent j).1;
         ending = h.marks.ending j;
         rounds = h.counts.descents j;
-        at = h.positions.first_gradient_lem j;
+        at = h.positions.opening j;
         iter = h.options.iter (inr j);
         memory = h.options.memory j;
         fevals = h.options.gradient_fevals j;

@@ -25,7 +25,7 @@ pub record UnknownsWithin (r : Record) : Type 0 where
 -- "a position above n": the vertex that a simplex is at, the coordinate that differences are at, for the first gradient, for a trial's, and of the job itself
 pub record PositionsWithin (r : Record) : Type 0 where
   pub vertex : r.job ≡ simplex_mark → r.simplex.at ≤ r.n
-  pub first_gradient_lem : Descends r → r.descent.diff.at ≤ r.n
+  pub opening : Descends r → r.descent.diff.at ≤ r.n
   pub trial : Searches r → r.descent.search.diff.at ≤ r.n
   pub coordinate : r.job ≡ differences_mark → r.diff.at ≤ r.n
 

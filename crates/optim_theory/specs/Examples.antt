@@ -88,9 +88,9 @@ options =
       gradients = true;
     }
 
--- with a for both allowances: absent, max_iter is 200 and max_fevals no limit
+-- with the max_iter a: absent, it is 200; max_fevals is absent, which is no limit
 abbrev gradient_fit : Job → Allowance → Fit
-gradient_fit j a = record { job = j; allowances = record { iter = a; fevals = a }; x0 = bits one ∷ [] }
+gradient_fit j a = record { job = j; allowances = record { iter = a; fevals = absent 0 }; x0 = bits one ∷ [] }
 
 abbrev pub dense : Allowance → Fit
 dense a = gradient_fit (bfgs options) a

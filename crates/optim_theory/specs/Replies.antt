@@ -25,8 +25,8 @@ Among these (refused k d) = T (these k d)
 abbrev pub turns_away : ℕ → Bool
 turns_away k = eqb k 1 || (eqb k 15 || (eqb k 16 || eqb k 17))
 
--- those that end a fit: 5 (1 and 2), 6, 7, 12 (1 to 4), 13, 14, 18 and 19 of gradient fits, 20 of simplex fits. No fit that was started ends with 5, 13, 14 or a detail of 12 but 1
--- (optim_fits_theory).
+-- those that end a fit: 5 (1 and 2), 6, 7, 9, 10, 11, 12 (1 to 4), 13, 14, 18 and 19 of gradient fits, 20 of simplex fits. No fit that was started ends with 5, 9 to 11, 13, 14 or a
+-- detail of 12 but 1 (optim_fits_theory); a forged record may.
 abbrev pub ends_job : ℕ → ℕ → Bool
 ends_job k d = known_refusal_of k d || (eqb k 20 && eqb d 0)
 

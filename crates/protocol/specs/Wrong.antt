@@ -53,9 +53,17 @@ steps_on_repeat =
     (standing example r.last r.state, kept example r.limits (suc r.last) r.values r.gradients r.state)
     (fresh example r r.state a))
 
--- no repeat, and the fit has ended: its outcome again, a result with one iteration more, in place of 15
+-- another result than stands, and the reply y where none stands
+abbrev pub retold : Reply → Reply → Reply
+retold (ended (fitted r)) y = ended (fitted (another r))
+retold (ended (searched s)) y = y
+retold (ended (differenced g)) y = y
+retold (ask q) y = y
+retold (refused k d) y = y
+
+-- no repeat, and the fit has ended: another result in place of 15
 abbrev pub late : Kept Head → State Head → Answer → Reply × Kept Head
-late r (over y) a = (telling another y, r)
+late r (over y) a = (retold y (refused 15 0), r)
 late r (open_at k x c) a = fresh example r (open_at k x c) a
 
 -- 2. A late answer gets another result than stands.
@@ -64,7 +72,11 @@ tells_another_late = answering (λ r a. cond (is_repeat example r a) (standing e
 
 -- 3. A repeat after the end gets another result than stands.
 abbrev pub repeats_another : Engine
-repeats_another = answering (λ r a. cond (is_repeat example r a) (telling another (standing example r.last r.state), r) (fresh example r r.state a))
+repeats_another =
+    answering
+    (λ r a. cond (is_repeat example r a)
+    (retold (standing example r.last r.state) (standing example r.last r.state), r)
+    (fresh example r r.state a))
 
 -- 4. An answer to question 2 is refused with 16, though it suits.
 abbrev pub refuses_suiting : Engine
