@@ -3,14 +3,16 @@
 
 usage: python3 tools/snake_names.py [--check] [--anyway] [--labels FOLDER] [FOLDER]
 
-Reads each name that an .antt file below FOLDER/crates declares, at the top level, as a field, as a constructor or by 'as', and respells it: a hump
-or a dash becomes an underscore, and a name that begins with a capital and has no dash is a type's and stays. What turns: whole words in
-.antt, .rt and .edit files and in code spans of the pages; strings stay, and so do functions of src/, which are in snake case. What the
-prover names stays: the goals that Answers.antt and Invariants.antt answer, and labels behind a dot in them. Those are read off the
-output of `rt names`, where --labels gives its folder, and else taken to be what is declared or stands behind a dot in these files
-and is declared nowhere else. A name whose new spelling stands already in a file that has the old one would fall together with it:
-it gets the spelling of CLASHES, and without one the script stops and names it; --anyway goes on, for a tree that is only read beside
-this one. --check writes nothing and prints the table.
+Reads each name that an .antt file below FOLDER/crates declares with a type, at any depth, or brings in by 'as', and respells it: a
+hump or a dash becomes an underscore. A name that begins with a capital and has no dash is a type's and stays, as modules and files do.
+A lemma that would then have its function's name gets `_lem`. What turns: whole words in .antt, .rt and .edit files, and in comments and
+pages the words of code spans, those with a hump and, beside code, those that the code has.
+What stays: strings, functions of src/ (in snake case before), words of QUOTED, what an .antt file has from a library of the kit, and what
+the prover names, that is the goals that Answers.antt and Invariants.antt answer, and labels behind a dot in them. Those are read off
+the output of `rt names`, where --labels gives its folder, and else taken to be what these files alone declare.
+A name whose new spelling stands already in a file that has the old one would fall together with it: it gets the spelling of CLASHES,
+and without one the script stops and names it; --anyway goes on, for a tree that is only read beside this one. A name that an edit or
+a page alone still has stays, as do names that the kit's port.py turned elsewhere. --check writes nothing and prints the table.
 """
 import collections
 import json
