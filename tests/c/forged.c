@@ -6,7 +6,7 @@
 // Places of marks that are looked at, as crates/optim_lists/specs/Layout.antt has them.
 enum { ACCEPTED, JOB, N, FEVALS, GEVALS, ITER, MOST, RESTARTS, EVALS, MEMORY, DIFF_AT };
 enum { SIMPLEX_PHASE = 11, SIMPLEX_AT, ROUNDS, RUNS, DESCENT_PHASE, DESCENTS = 18, SEARCH_PHASE, TRIALS };
-enum { SEARCH_DIFF_AT = 21, FIRST_DIFF_AT, MODEL_MEMORY, PAIRS, FLAGS, LIMITED = 34 };
+enum { SEARCH_DIFF_AT = 21, FIRST_DIFF_AT, MODEL_MEMORY, PAIRS, FLAGS };
 
 static const uint64_t ABOVE = UINT64_C(40000000001);
 
@@ -94,7 +94,9 @@ static void check_jobs(void) {
         refuses(mark, DESCENTS, ABOVE);
         refuses(mark, FIRST_DIFF_AT, 3);
         refuses(mark, ITER, 1000001);
-        refuses(mark, LIMITED, mark == 2 ? 1 : 0);
+        refuses(mark, MEMORY, 17);
+        refuses(mark, MODEL_MEMORY, 17);
+        refuses(mark, PAIRS, mark == 2 ? 1 : 11);
     }
     for (int mark = 2; mark <= 4; mark++) {
         refuses(mark, SEARCH_PHASE, 6);
@@ -102,9 +104,6 @@ static void check_jobs(void) {
         refuses(mark, TRIALS, 31);
         refuses(mark, EVALS, 1001);
     }
-    refuses(3, MEMORY, 17);
-    refuses(3, MODEL_MEMORY, 9);
-    refuses(3, PAIRS, 11);
     refuses(4, DESCENT_PHASE, 5);
 }
 
