@@ -163,7 +163,7 @@ valid_descent_of r =
     (cond (not (valid_model_of r.model)) false (valid_search_part_of r))))))))
 
 -- Refusal 1, for the parts that are there: "The record has n above 16 (or 0, other than for differences), a position above n, .. an option past 2's limits, an unknown mark
--- or any count above 4·10^10." A part that the job does not use is not looked at.
+-- or any count above 4·10^10." A part that the job does not use is not looked at, but memory and pairs of bfgs are.
 unfoldable pub valid_of : Record → Bool
 unfolding valid_simplex_of valid_search_of valid_descent_of
 valid_of r =

@@ -94,6 +94,6 @@ pub record InRange (r : Record) : Type 0 where
   pub marks : MarksKnown r
   pub counts : CountsWithin r
 
--- "Refusal 1 refuses exactly 01's list and nothing more": of every record, forged ones too
+-- Refusal 1 refuses the list above and nothing else, of every record, forged ones too. It is 01's, but that memory and pairs count of bfgs as of lbfgs
 abbrev pub RefusesExactly : Type 0
 RefusesExactly = (r : Record) → (valid_of r ≡ true) ↔ InRange r
