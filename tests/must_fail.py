@@ -30,7 +30,8 @@ STRAY = re.compile(r"rt: (\S*must-fail/\S+): (BAD EDIT.*)")
 REFUSED = "refused, as it must be"
 # Where a refusal begins with a goal that nothing proves: its file, its line, and its name, of which rt may cut the end off.
 OPEN = re.compile(r": note: (?:\./)?src/([\w/]+)\.rt:(\d+):\d+: it is not proved .*?\(`([^`\s]+)(`\)|`?$)")
-FUNCTION = re.compile(r'^ *(?:pub )?(?:extern "C" )?fn (\w+)')
+FUNCTION = re.compile(r'^ *(?:pub )?(?:const )?(?:extern "C" )?fn (\w+)')
+BLOCK = re.compile(r"^(?:impl(?:<.*>)? (?:.* for )?|trait |pub trait )(\w+)")
 ANSWER = re.compile(r"(?m)^(?:abbrev )?(?:pub )?(\S+) : goal\.")
 # Words that rt has of an edit, and those of the fault that is due; none of a refusal for a fact.
 WAYS = [
@@ -103,10 +104,16 @@ def edited(crate, pairs):
 
 def enclosing(crate, module, line):
     """The function that a line of a file of src/ stands in, as its path below the crate."""
-    text = pathlib.Path("crates", crate, "src", f"{module}.rt").read_text().split("\n")[:line]
-    names = [found[1] for found in map(FUNCTION.match, text) if found]
+    text = pathlib.Path("crates", crate, "src", f"{module}.rt").read_text().split("\n")
+    while text[line - 1].lstrip().startswith("#["):
+        line += 1
+    owner, name = "", None
+    for it in text[:line]:
+        block, found = BLOCK.match(it), FUNCTION.match(it)
+        owner = block[1] + "::" if block else "" if it == "}" else owner
+        name = owner + found[1] if found else name
     prefix = "" if module in ("lib", "main") else module.replace("/", "::") + "::"
-    return prefix + names[-1] if names else None
+    return prefix + name if name else None
 
 
 def renamed(crate, pairs, words):
@@ -116,8 +123,9 @@ def renamed(crate, pairs, words):
         return []
     function, goal, is_whole = enclosing(crate, found[1], int(found[2])), found[3].split("-clause-")[0], found[4] == "`)"
     answers = pathlib.Path("crates", crate, "proofs", *(function or "").split("::"), "Answers.antt")
-    own = unchanged(crate).get(function, set())
-    if not function or not answers.is_file() or any(it == goal if is_whole else it.startswith(goal) for it in own):
+    if not function or not answers.is_file() or not ANSWER.search(answers.read_text()):
+        return []
+    if any(it == goal if is_whole else it.startswith(goal) for it in unchanged(crate).get(function, set())):
         return []
     left, text = edited(crate, pairs).get(function, set()), answers.read_text()
     for file, old, new in pairs:

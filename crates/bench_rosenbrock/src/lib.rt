@@ -7,84 +7,86 @@ ghost use Rattle.bench_rosenbrock.specs.Most.{outside_of, most_of};
 
 use optim::{Answered, Record};
 use protocol::{
-    Allowance, Allowances, BFGS, GradientOptions, Kind, SIMPLEX, Said, SimplexOptions, WolfeOptions,
+    Allowances, BFGS, GradientOptions, Kind, SIMPLEX, Said, SimplexOptions, WolfeOptions,
 };
 
-// The sum of 100 (x[i] - x[i-1]²)² + (1 - x[i-1])² over the chain.
-fn value(x: [f64; 16], n: usize) -> f64
-    requires { n ≤ 16 }
-{
-    let mut f = 0.0;
-    let mut i: usize = 1;
-    while i < n {
-        let a = x[i - 1];
-        let b = x[i] - a * a;
-        let c = 1.0 - a;
-        f = f + (100.0 * b * b + c * c);
-        i += 1;
-    }
-    f
+// How many questions a fit is answered at most.
+const MOST: u64 = 100_000;
+
+// A point of the chain: the first n of sixteen coordinates.
+#[derive(Clone, Copy)]
+struct Point {
+    x: [f64; 16],
+    n: usize,
+    ghost within: { n ≤ 16 },
 }
 
-fn gradient(x: [f64; 16], n: usize) -> [f64; 16]
-    requires { n ≤ 16 }
-    ensures { length result ≡ 16 }
-{
-    let mut g = [0.0; 16];
-    let mut i: usize = 1;
-    while i < n {
-        let a = x[i - 1];
-        let b = x[i] - a * a;
-        g[i - 1] = g[i - 1] - (400.0 * a * b + 2.0 * (1.0 - a));
-        g[i] = g[i] + 200.0 * b;
-        i += 1;
+impl Point {
+    // Where a fit starts: -1.2, 1, -1.2, 1, ..
+    fn begin(n: usize) -> Point
+        requires { n ≤ 16 }
+    {
+        let mut x = [0.0; 16];
+        for i in 0..n {
+            x[i] = if i % 2 == 0 { -1.2 } else { 1.0 };
+        }
+        Point { x, n }
     }
-    g
-}
 
-// What an answer says of a point: the gradient where `slope`, else the value alone.
-fn words(x: [f64; 16], n: usize, slope: bool) -> [f64; 16]
-    requires { n ≤ 16 }
-    ensures { length result ≡ 16 }
-{
-    if slope {
-        return gradient(x, n);
+    // The sum of 100 (x[i] - x[i-1]²)² + (1 - x[i-1])² over the chain.
+    fn value(&self) -> f64 {
+        let mut f = 0.0;
+        for i in 1..self.n {
+            let a = self.x[i - 1];
+            let b = self.x[i] - a * a;
+            let c = 1.0 - a;
+            f = f + (100.0 * b * b + c * c);
+        }
+        f
     }
-    let mut w = [0.0; 16];
-    w[0] = value(x, n);
-    w
-}
 
-// Where the chain's coordinate i starts: -1.2, 1, -1.2, 1, ..
-fn first(i: usize) -> f64 {
-    if i % 2 == 0 {
-        return -1.2;
+    fn gradient(&self) -> [f64; 16] {
+        let mut g = [0.0; 16];
+        for i in 1..self.n {
+            let a = self.x[i - 1];
+            let b = self.x[i] - a * a;
+            g[i - 1] = g[i - 1] - (400.0 * a * b + 2.0 * (1.0 - a));
+            g[i] = g[i] + 200.0 * b;
+        }
+        g
     }
-    1.0
-}
 
-fn begin(n: usize) -> [f64; 16]
-    requires { n ≤ 16 }
-    ensures { length result ≡ 16 }
-{
-    let mut x = [0.0; 16];
-    let mut i: usize = 0;
-    while i < n {
-        x[i] = first(i);
-        i += 1;
+    // What an answer of that kind says of the point.
+    fn words(&self, kind: Kind) -> [f64; 16] {
+        match kind {
+            Kind::Gradient => self.gradient(),
+            Kind::Value => {
+                let mut w = [0.0; 16];
+                w[0] = self.value();
+                w
+            }
+        }
     }
-    x
-}
 
-// No allowance is given.
-fn unlimited() -> Allowances {
-    let none = Allowance {
-        given: false,
-        count: 0,
-    };
-    Allowances {
-        iter: none,
-        fevals: none,
+    // How many words that answer has.
+    fn count_of(&self, kind: Kind) -> usize
+        ensures { result ≤ 16 }
+    {
+        match kind {
+            Kind::Gradient => self.n,
+            Kind::Value => 1,
+        }
+    }
+
+    // Puts the point and m at `at`, where there is room for them: the place behind them.
+    fn put(&self, list: &mut [f64], at: usize, m: f64) -> usize {
+        let n = self.n;
+        if list.len() <= at || list.len() - at <= n {
+            return at;
+        }
+        list[at..at + n].copy_from_slice(&self.x[..n]);
+        list[at + n] = m;
+        at + n + 1
     }
 }
 
@@ -92,8 +94,11 @@ fn unlimited() -> Allowances {
 fn started(job: u64, n: usize, gradients: bool) -> Answered
     requires { n ≤ 16 }
 {
-    let all = unlimited();
-    let x = begin(n);
+    let all = Allowances {
+        iter: None,
+        fevals: None,
+    };
+    let x = Point::begin(n).x;
     if job == SIMPLEX {
         let o = SimplexOptions {
             xtol: 1e-8,
@@ -124,93 +129,37 @@ fn started(job: u64, n: usize, gradients: bool) -> Answered
     optim::lbfgs(&x[..n], o, all)
 }
 
-// The number of the open question, 0 where none is.
-fn number_of(said: Said) -> u64 {
+// The open question's number and kind, none where the fit is over.
+fn question(said: Said) -> Option<(u64, Kind)> {
     match said {
-        Said::Ask(number, _) => number,
-        _ => 0,
-    }
-}
-
-// Whether a gradient is asked for.
-fn slopes(said: Said) -> bool {
-    match said {
-        Said::Ask(_, kind) => match kind {
-            Kind::Gradient => true,
-            Kind::Value => false,
-        },
-        _ => false,
+        Said::Ask(number, kind) => Some((number, kind)),
+        _ => None,
     }
 }
 
 // What stands behind a point in the list of questions: 0 for a value's, 1 for a gradient's, f for the outcome's.
 fn mark(said: Said) -> f64 {
     match said {
-        Said::Ask(_, kind) => match kind {
-            Kind::Gradient => 1.0,
-            Kind::Value => 0.0,
-        },
+        Said::Ask(_, Kind::Value) => 0.0,
+        Said::Ask(_, Kind::Gradient) => 1.0,
         Said::Fitted(summary) => summary.f,
         _ => -1.0,
     }
 }
 
-// Puts a point and m at `at`, where there is room for them: the place behind them.
-fn put(list: &mut [f64], at: usize, x: [f64; 16], n: usize, m: f64) -> usize
-    requires { n ≤ 16 }
-{
-    if list.len() <= at {
-        return at;
-    }
-    if list.len() - at <= n {
-        return at;
-    }
-    let mut i: usize = 0;
-    while i < n {
-        list[at + i] = x[i];
-        i += 1;
-    }
-    list[at + n] = m;
-    at + n + 1
-}
-
-// How many words an answer has.
-fn count_of(n: usize, slope: bool) -> usize
-    requires { n ≤ 16 }
-    ensures { result ≤ 16 }
-{
-    if slope {
-        return n;
-    }
-    1
-}
-
-// The letter of an answer's kind.
-fn letter(slope: bool) -> u8 {
-    if slope {
-        return protocol::GRADIENT;
-    }
-    protocol::VALUE
-}
-
-// The reply to the answer to an open question. It alone calls `answer`, so that the compiler may put it in line.
-fn told(r: Record, x: [f64; 16], n: usize, said: Said) -> Answered
-    requires { n ≤ 16 }
-{
-    let slope = slopes(said);
-    let w = words(x, n, slope);
-    let count = count_of(n, slope);
-    optim::answer(r, number_of(said), letter(slope), &w[..count])
+// The reply to the answer to a question. It alone calls `answer`, so that the compiler may put it in line.
+fn told(r: Record, p: &Point, number: u64, kind: Kind) -> Answered {
+    let w = p.words(kind);
+    let count = p.count_of(kind);
+    optim::answer(r, number, protocol::letter(kind), &w[..count])
 }
 
 // Whether n is none that a fit is started with.
+#[tactic(auto, unfolding(crate::specs::Most::outside_of))]
 fn outside(n: usize) -> bool
     ensures { result ≡ outside_of n }
 {
-    if n == 0 {
-        return true;
-    }
-    16 < n
+    n == 0 || 16 < n
 }
 
 // Answers a whole fit from the chain's start: the count of questions, 0 where n is not from 1 to 16. Each question,
@@ -222,27 +171,18 @@ pub extern "C" fn rosenbrock_fit(job: u64, n: usize, gradients: bool, list: &mut
     if outside(n) {
         return 0;
     }
-    let a = started(job, n, gradients);
-    let mut said = a.said;
-    let mut x = a.x;
-    let mut r = a.next;
-    let mut turns: u64 = 0;
+    let mut a = started(job, n, gradients);
     let mut at: usize = 0;
-    while turns < 100_000 {
-        at = put(list, at, x, n, mark(said));
-        if number_of(said) == 0 {
+    for turns in 0..MOST {
+        let x = a.x;
+        let p = Point { x, n };
+        at = p.put(list, at, mark(a.said));
+        let Some((number, kind)) = question(a.said) else {
             return turns;
-        }
-        let b = told(r, x, n, said);
-        let t = b.said;
-        let y = b.x;
-        let q = b.next;
-        said = t;
-        x = y;
-        r = q;
-        turns += 1;
+        };
+        a = told(a.next, &p, number, kind);
     }
-    turns
+    MOST
 }
 
 // Evaluates the objective `count` times, each time at a point that depends on what the last gave: what it gave last.
@@ -251,14 +191,12 @@ pub extern "C" fn rosenbrock_objective(n: usize, slope: bool, count: u64) -> f64
     if outside(n) {
         return 0.0;
     }
-    let mut x = begin(n);
+    let kind = if slope { Kind::Gradient } else { Kind::Value };
+    let mut p = Point::begin(n);
     let mut f = 0.0;
-    let mut i: u64 = 0;
-    while i < count {
-        x[0] = x[0] + f * 1e-300;
-        let w = words(x, n, slope);
-        f = w[0];
-        i += 1;
+    for _ in 0..count {
+        p.x[0] = p.x[0] + f * 1e-300;
+        f = p.words(kind)[0];
     }
     f
 }

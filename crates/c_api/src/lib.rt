@@ -15,10 +15,7 @@ ghost use Rattle.protocol.specs.Protocol.{read_of};
 ghost use Rattle.objective.specs.Algorithm.{forward_of, backward_of, slope_at};
 
 use objective::Differences;
-pub use options::{
-    Allowance, Allowances, GradientOptions, SimplexOptions, WolfeOptions, to_allowances,
-    to_gradient, to_simplex, to_wolfe,
-};
+pub use options::{Allowance, Allowances, GradientOptions, SimplexOptions, WolfeOptions};
 pub use reply::{Reply, hand};
 
 #[unsafe(no_mangle)]
@@ -94,7 +91,7 @@ pub extern "C" fn fit_slope(x: f64, fp: f64, fm: f64) -> f64
         x: [x; 16],
         g: [0.0; 16],
     };
-    let t = objective::told(s, fm);
+    let t = s.told(fm);
     let g = t.g;
     g[0]
 }

@@ -8,7 +8,7 @@ use protocol::{Kind, Said, Termination};
 // `what` is 1 for a question, 2 for a fit's result, 3 for a search's, 4 for a gradient by differences, 5 for a refusal. A field that
 // a reply has no use for is zero.
 #[repr(C)]
-#[derive(Clone, Copy)]
+#[derive(Clone, Copy, Default)]
 pub struct Reply {
     pub what: u64,
     pub number: u64,
@@ -44,55 +44,44 @@ fn place(t: Termination) -> u64
 }
 
 // What is said, by its numbers alone: point and gradient are lent beside it.
+#[tactic(auto, unfolding(crate::specs::Reply::reply_as, protocol::specs::Protocol::reply_of))]
 pub fn hand(s: Said) -> Reply
     ensures { result ≡ reply_as (reply_of s 0 [] []) }
 {
-    let mut r = Reply {
-        what: 5,
-        number: 0,
-        reason: 0,
-        iterations: 0,
-        fevals: 0,
-        gevals: 0,
-        trials: 0,
-        refusal: 0,
-        detail: 0,
-        f: 0.0,
-        step: 0.0,
-        kind: 0,
-        converged: false,
-        success: false,
-    };
     match s {
-        Said::Ask(number, k) => {
-            r.what = 1;
-            r.number = number;
-            r.kind = protocol::letter(k);
-        }
-        Said::Fitted(fit) => {
-            let reason = fit.reason;
-            r.what = 2;
-            r.reason = place(reason);
-            r.converged = fit.converged;
-            r.iterations = fit.iterations;
-            r.fevals = fit.fevals;
-            r.gevals = fit.gevals;
-            r.f = fit.f;
-        }
-        Said::Searched(found) => {
-            r.what = 3;
-            r.success = found.success;
-            r.step = found.step;
-            r.f = found.f;
-            r.trials = found.trials;
-        }
-        Said::Differenced => {
-            r.what = 4;
-        }
-        Said::Refused(number, detail) => {
-            r.refusal = number;
-            r.detail = detail;
-        }
+        Said::Ask(number, k) => Reply {
+            what: 1,
+            number,
+            kind: protocol::letter(k),
+            ..Reply::default()
+        },
+        Said::Fitted(fit) => Reply {
+            what: 2,
+            reason: place(fit.reason),
+            converged: fit.converged,
+            iterations: fit.iterations,
+            fevals: fit.fevals,
+            gevals: fit.gevals,
+            f: fit.f,
+            ..Reply::default()
+        },
+        Said::Searched(found) => Reply {
+            what: 3,
+            success: found.success,
+            step: found.step,
+            f: found.f,
+            trials: found.trials,
+            ..Reply::default()
+        },
+        Said::Differenced => Reply {
+            what: 4,
+            ..Reply::default()
+        },
+        Said::Refused(why) => Reply {
+            what: 5,
+            refusal: why.number,
+            detail: why.detail,
+            ..Reply::default()
+        },
     }
-    r
 }

@@ -2,9 +2,9 @@
 use Rattle.std.specs.Prelude.{true, false}
 use Rattle.float.specs.Binary64.{bits, plus_zero}
 use Rattle.c_api.specs.declared.options.Allowances.{Allowances}
-use Rattle.c_api.specs.declared.options.SimplexOptions.{SimplexOptions}
-use Rattle.c_api.specs.declared.options.WolfeOptions.{WolfeOptions}
-use Rattle.c_api.specs.declared.options.GradientOptions.{GradientOptions}
+use Rattle.protocol.specs.declared.SimplexOptions.{SimplexOptions}
+use Rattle.protocol.specs.declared.WolfeOptions.{WolfeOptions}
+use Rattle.protocol.specs.declared.GradientOptions.{GradientOptions}
 
 -- `NelderMeadOptions` of neldermead.rs: 1e-8, 1e-8 and 0.05
 unfoldable pub default_simplex : SimplexOptions

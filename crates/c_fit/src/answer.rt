@@ -5,6 +5,7 @@ ghost use Rattle.optim_lists.specs.Answered.{answered_of, point_after, slopes_af
 ghost use Rattle.c_fit.specs.Handed.{handed_of};
 
 use c_api::{Reply, hand};
+use optim_lists::Lent;
 
 // An answer: its number, its kind's letter and its words. A refused or repeated one leaves every array of the record as it was.
 #[unsafe(no_mangle)]
@@ -42,9 +43,31 @@ pub extern "C" fn fit_record_answer(
     ensures said_point { point.new ≡ point_after (answered_of (lists m.old w.old dx.old dg.old sx.old best.old centroid.old reflected.old points.old values.old lx.old lg.old ld.old tx.old tg.old ex.old eg.old ix.old ig.old h.old steps.old changes.old factors.old) number kind words.now) point.old }
     ensures said_slopes { slopes.new ≡ slopes_after (answered_of (lists m.old w.old dx.old dg.old sx.old best.old centroid.old reflected.old points.old values.old lx.old lg.old ld.old tx.old tg.old ex.old eg.old ix.old ig.old h.old steps.old changes.old factors.old) number kind words.now) slopes.old }
 {
-    let said = optim_lent::answer(
-        m, w, dx, dg, sx, best, centroid, reflected, points, values, lx, lg, ld, tx, tg, ex, eg,
-        ix, ig, h, steps, changes, factors, number, kind, words, point, slopes,
-    );
+    let lent = Lent {
+        m,
+        w,
+        dx,
+        dg,
+        sx,
+        best,
+        centroid,
+        reflected,
+        points,
+        values,
+        lx,
+        lg,
+        ld,
+        tx,
+        tg,
+        ex,
+        eg,
+        ix,
+        ig,
+        h,
+        steps,
+        changes,
+        factors,
+    };
+    let said = optim_lent::answer(lent, number, kind, words, point, slopes);
     hand(said)
 }

@@ -48,6 +48,7 @@ pub extern "C" fn fit_default_gradient() -> GradientOptions
 }
 
 // Of a fit's allowances: both are absent.
+#[tactic(auto, unfolding(crate::specs::Defaults::default_allowances))]
 #[unsafe(no_mangle)]
 pub extern "C" fn fit_default_allowances() -> Allowances
     ensures { result ≡ default_allowances }

@@ -6,6 +6,7 @@ ghost use Rattle.optim_lists.specs.Answered.{started_of, point_after, slopes_aft
 ghost use Rattle.c_fit.specs.Handed.{handed_of};
 
 use c_api::{Reply, hand};
+use optim_lists::Lent;
 
 // Central differences at x.
 #[unsafe(no_mangle)]
@@ -41,9 +42,31 @@ pub extern "C" fn fit_record_differences(
     ensures said_point { point.new ≡ point_after (started_of (differences_of x.now)) point.old }
     ensures said_slopes { slopes.new ≡ slopes_after (started_of (differences_of x.now)) slopes.old }
 {
-    let said = optim_lent::differences(
-        m, w, dx, dg, sx, best, centroid, reflected, points, values, lx, lg, ld, tx, tg, ex, eg,
-        ix, ig, h, steps, changes, factors, x, point, slopes,
-    );
+    let lent = Lent {
+        m,
+        w,
+        dx,
+        dg,
+        sx,
+        best,
+        centroid,
+        reflected,
+        points,
+        values,
+        lx,
+        lg,
+        ld,
+        tx,
+        tg,
+        ex,
+        eg,
+        ix,
+        ig,
+        h,
+        steps,
+        changes,
+        factors,
+    };
+    let said = optim_lent::differences(lent, x, point, slopes);
     hand(said)
 }

@@ -3,10 +3,10 @@ ghost use Rattle.std.specs.Prelude.{◌≡◌};
 ghost use Rattle.optim_start.specs.Start.{search_of};
 ghost use Rattle.optim_lists.specs.Lists.{lists};
 ghost use Rattle.optim_lists.specs.Answered.{started_of, point_after, slopes_after};
-ghost use Rattle.c_api.specs.Options.{to_wolfe_of};
 ghost use Rattle.c_fit.specs.Handed.{handed_of};
 
-use c_api::{Reply, WolfeOptions, hand, to_wolfe};
+use c_api::{Reply, WolfeOptions, hand};
+use optim_lists::Lent;
 
 // A search from x along d, where the value is f0 and the gradient g, with the first step `step`.
 #[unsafe(no_mangle)]
@@ -44,14 +44,35 @@ pub extern "C" fn fit_record_search(
     point: &mut [f64; 16],
     slopes: &mut [f64; 16],
 ) -> Reply
-    ensures outcome { (result, lists m.new w.new dx.new dg.new sx.new best.new centroid.new reflected.new points.new values.new lx.new lg.new ld.new tx.new tg.new ex.new eg.new ix.new ig.new h.new steps.new changes.new factors.new) ≡ handed_of (started_of (search_of x.now d.now f0 g.now step (to_wolfe_of o) gradients)) }
-    ensures said_point { point.new ≡ point_after (started_of (search_of x.now d.now f0 g.now step (to_wolfe_of o) gradients)) point.old }
-    ensures said_slopes { slopes.new ≡ slopes_after (started_of (search_of x.now d.now f0 g.now step (to_wolfe_of o) gradients)) slopes.old }
+    ensures outcome { (result, lists m.new w.new dx.new dg.new sx.new best.new centroid.new reflected.new points.new values.new lx.new lg.new ld.new tx.new tg.new ex.new eg.new ix.new ig.new h.new steps.new changes.new factors.new) ≡ handed_of (started_of (search_of x.now d.now f0 g.now step o gradients)) }
+    ensures said_point { point.new ≡ point_after (started_of (search_of x.now d.now f0 g.now step o gradients)) point.old }
+    ensures said_slopes { slopes.new ≡ slopes_after (started_of (search_of x.now d.now f0 g.now step o gradients)) slopes.old }
 {
-    let options = to_wolfe(o);
-    let said = optim_lent::search(
-        m, w, dx, dg, sx, best, centroid, reflected, points, values, lx, lg, ld, tx, tg, ex, eg,
-        ix, ig, h, steps, changes, factors, x, d, f0, g, step, options, gradients, point, slopes,
-    );
+    let lent = Lent {
+        m,
+        w,
+        dx,
+        dg,
+        sx,
+        best,
+        centroid,
+        reflected,
+        points,
+        values,
+        lx,
+        lg,
+        ld,
+        tx,
+        tg,
+        ex,
+        eg,
+        ix,
+        ig,
+        h,
+        steps,
+        changes,
+        factors,
+    };
+    let said = optim_lent::search(lent, x, d, f0, g, step, o, gradients, point, slopes);
     hand(said)
 }

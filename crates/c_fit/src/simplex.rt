@@ -3,10 +3,11 @@ ghost use Rattle.std.specs.Prelude.{◌≡◌};
 ghost use Rattle.optim_start.specs.Start.{simplex_of};
 ghost use Rattle.optim_lists.specs.Lists.{lists};
 ghost use Rattle.optim_lists.specs.Answered.{started_of, point_after, slopes_after};
-ghost use Rattle.c_api.specs.Options.{to_allowances_of, to_simplex_of};
+ghost use Rattle.c_api.specs.Options.{to_allowances_of};
 ghost use Rattle.c_fit.specs.Handed.{handed_of};
 
-use c_api::{Allowances, Reply, SimplexOptions, hand, to_allowances, to_simplex};
+use c_api::{Allowances, Reply, SimplexOptions, hand};
+use optim_lists::Lent;
 
 // A simplex fit at x.
 #[unsafe(no_mangle)]
@@ -40,15 +41,35 @@ pub extern "C" fn fit_record_simplex(
     point: &mut [f64; 16],
     slopes: &mut [f64; 16],
 ) -> Reply
-    ensures outcome { (result, lists m.new w.new dx.new dg.new sx.new best.new centroid.new reflected.new points.new values.new lx.new lg.new ld.new tx.new tg.new ex.new eg.new ix.new ig.new h.new steps.new changes.new factors.new) ≡ handed_of (started_of (simplex_of x.now (to_simplex_of o) (to_allowances_of a))) }
-    ensures said_point { point.new ≡ point_after (started_of (simplex_of x.now (to_simplex_of o) (to_allowances_of a))) point.old }
-    ensures said_slopes { slopes.new ≡ slopes_after (started_of (simplex_of x.now (to_simplex_of o) (to_allowances_of a))) slopes.old }
+    ensures outcome { (result, lists m.new w.new dx.new dg.new sx.new best.new centroid.new reflected.new points.new values.new lx.new lg.new ld.new tx.new tg.new ex.new eg.new ix.new ig.new h.new steps.new changes.new factors.new) ≡ handed_of (started_of (simplex_of x.now o (to_allowances_of a))) }
+    ensures said_point { point.new ≡ point_after (started_of (simplex_of x.now o (to_allowances_of a))) point.old }
+    ensures said_slopes { slopes.new ≡ slopes_after (started_of (simplex_of x.now o (to_allowances_of a))) slopes.old }
 {
-    let options = to_simplex(o);
-    let both = to_allowances(a);
-    let said = optim_lent::simplex(
-        m, w, dx, dg, sx, best, centroid, reflected, points, values, lx, lg, ld, tx, tg, ex, eg,
-        ix, ig, h, steps, changes, factors, x, options, both, point, slopes,
-    );
+    let lent = Lent {
+        m,
+        w,
+        dx,
+        dg,
+        sx,
+        best,
+        centroid,
+        reflected,
+        points,
+        values,
+        lx,
+        lg,
+        ld,
+        tx,
+        tg,
+        ex,
+        eg,
+        ix,
+        ig,
+        h,
+        steps,
+        changes,
+        factors,
+    };
+    let said = optim_lent::simplex(lent, x, o, a.into(), point, slopes);
     hand(said)
 }

@@ -1,9 +1,8 @@
 -- What one write more, or one text more, adds to a text that is being written. Assumes nothing.
-use Rattle.std.proofs.Common.{◌≡◌, ℕ, ◌-◌, Bool, true, false, List, Option, ◌++◌, length, take, drop, refl, sym, ap, ◌∙◌, append_assoc, take-append-drop}
-use mathlib.Core.Bool.{true≢false}
+use Rattle.std.proofs.Common.{◌≡◌, ℕ, ◌-◌, Bool, true, false, List, Option, ◌++◌, length, take, drop, refl, sym, ap, ◌∙◌, append_assoc, subst, take-append-drop}
 use Rattle.std.proofs.lemmas.List.{take_rest}
-use Rattle.std.proofs.KnownBytes.{Appends-trans, Appends-kept}
-use Rattle.std.specs.Io.KnownBytes.{Appends, Keeps}
+use Rattle.std.proofs.KnownBytes.{Appends-trans}
+use Rattle.std.specs.Io.KnownBytes.{Appends}
 use Rattle.fit.specs.Output.{Wrote}
 
 -- a write took n bytes of those that were left
@@ -27,13 +26,6 @@ pub then_text : (w : Bool) (a b c : Option (List ℕ)) (t u : List ℕ) → Appe
 then_text true a b c t u h k = Appends-trans a b c t u h k
 then_text false a b c t u h (front, rest, split, k) = (t ++ front, rest, ap (λ l. t ++ l) split ∙ sym (append_assoc t front rest), Appends-trans a b c t front h k)
 
--- nothing is written once a text was lost
-pub then_kept : (a b c : Option (List ℕ)) (t : List ℕ) → Wrote false a b t → Keeps b c → Wrote false a c t
-then_kept a b c t (front, rest, split, h) k = (front, rest, split, Appends-kept a b c front h k)
-
--- a text more: as line_fed writes it
-pub then_line : (w v : Bool) (a b c : Option (List ℕ)) (t u : List ℕ) → Wrote w a b t → (w ≡ false → v ≡ false) → (w ≡ false → Keeps b c) → (w ≡ true → Wrote v b c u)
-    → Wrote v a c (t ++ u)
-then_line true v a b c t u h lost kept now = then_text v a b c t u h (now refl)
-then_line false true a b c t u h lost kept now = absurd (true≢false (lost refl))
-then_line false false a b c t u h lost kept now = then_kept a b c (t ++ u) (front_longer false a b t u h) (kept refl)
+-- a text was lost behind one that was written whole: of all that was due no more than a front was written
+pub then_lost : (a b c : Option (List ℕ)) (t u more all : List ℕ) → t ++ (u ++ more) ≡ all → Appends a b t → Wrote false b c u → Wrote false a c all
+then_lost a b c t u more all e h k = subst (Wrote false a c) (append_assoc t u more ∙ e) (front_longer false a c (t ++ u) more (then_text false a b c t u h k))

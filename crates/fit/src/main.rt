@@ -3,90 +3,84 @@
 // decided, and no reply is written behind one that was lost.
 #![tactic(auto)]
 
-ghost use Rattle.std.specs.Prelude.{◌≡◌, ◌≢◌, ℕ, true, false, List, [], drop, IfSome};
-ghost use Rattle.std.specs.Io.KnownBytes.{Appends, Consumes, Keeps};
+ghost use Rattle.std.specs.Prelude.{◌≡◌, ◌≢◌, ℕ, false, List, [], drop, Ok, Err, is_ok, IfSome, IfOk, OnOk};
+ghost use Rattle.std.specs.Io.KnownBytes.{Appends, Consumes};
 ghost use Rattle.fit_state.specs.States.{scanned_of};
 ghost use Rattle.fit_dialogue.specs.Program.{by_bytes, first_place, output_of, passed_of, step_of, turned_of};
 ghost use Rattle.fit.specs.Output.{Wrote};
+ghost use Rattle.fit.specs.declared.End.TheVariants.{WriteFailed};
 
 use fit_dialogue::{Place, Step};
-use lines_reader::STOPPED;
+use lines_reader::Form;
 use std::io::{Read, Write};
 
-// A step, and whether every reply up to it was written.
-#[derive(Drop)]
-struct Stepped {
-    step: Step,
-    written: bool,
-}
+// A reply was lost: a write took nothing of what was left of it, or failed.
+#[derive(Clone, Copy, Debug, PartialEq, Eq)]
+struct Lost;
 
-// A place, and whether every reply on the way to it was written.
-#[derive(Drop)]
-struct Fed {
-    place: Place,
-    written: bool,
-}
-
-// How a run ends: with nothing left to be written, at a read or a write that failed, or after 2^64 - 1 reads.
-#[derive(Clone, Copy)]
+// How a run ends early: at a read or a write that failed, or after 2^64 - 1 reads.
+#[derive(Clone, Copy, Debug, PartialEq, Eq)]
 enum End {
-    Whole,
     ReadFailed,
     WriteFailed,
     Unfinished,
 }
 
-// Writes all the bytes and answers true, or stops at the first write that takes nothing or fails.
-fn write_reply<W: Write>(output: &mut W, bytes: &[u8]) -> bool
-    ensures { Wrote result (W.contents output.old) (W.contents output.new) bytes.now }
+impl From<Lost> for End {
+    ghost from_gives = { λ _ e. e ≡ WriteFailed };
+
+    fn from(_lost: Lost) -> End {
+        End::WriteFailed
+    }
+}
+
+// Writes all the bytes, or stops at the first write that takes nothing or fails. The library's `write_all`
+// does not say what was written of a text where it fails.
+fn write_reply<W: Write>(output: &mut W, bytes: &[u8]) -> Result<(), Lost>
+    ensures { Wrote (is_ok result) (W.contents output.old) (W.contents output.new) bytes.now }
 {
     let mut rest = bytes;
     while !rest.is_empty() {
         match output.write(rest) {
-            Ok(0) => return false,
+            Ok(0) => return Err(Lost),
             Ok(n) => rest = &rest[n..],
-            Err(_) => return false,
+            Err(_) => return Err(Lost),
         }
     }
-    true
+    Ok(())
 }
 
-// One line of a part: what it brings is written, unless a reply before it was lost.
-fn line_fed<W: Write>(output: &mut W, p: Place, s: &[u8], from: usize, written: bool) -> Stepped
-    ensures step { result.step ≡ step_of p from (drop from s.now) }
-    ensures lost { written ≡ false → result.written ≡ false }
-    ensures kept { written ≡ false → Keeps (W.contents output.old) (W.contents output.new) }
-    ensures reply { written ≡ true →
-        Wrote result.written (W.contents output.old) (W.contents output.new)
+// One line of a part: what it brings is written.
+fn line_fed<W: Write>(output: &mut W, p: Place, s: &[u8], from: usize) -> Result<Step, Lost>
+    ensures step { IfOk result (λ q. q ≡ step_of p from (drop from s.now)) }
+    ensures reply { Wrote (is_ok result) (W.contents output.old) (W.contents output.new)
         (turned_of p (scanned_of from (drop from s.now) p.reader)).0 }
 {
     let mut out = [0u8; 512];
     let step = fit_dialogue::stepped(&mut out, p, s, from);
-    let written = written && write_reply(output, &out[..step.count]);
-    Stepped { step, written }
+    write_reply(output, &out[..step.count])?;
+    Ok(step)
 }
 
-// A part of the input, line by line.
-fn fed_part<W: Write>(output: &mut W, p: Place, s: &[u8]) -> Fed
-    ensures place { result.place ≡ (passed_of p s.now).1 }
-    ensures replies { Wrote result.written (W.contents output.old) (W.contents output.new)
+// A part of the input, line by line, up to a reply that is lost.
+fn fed_part<W: Write>(output: &mut W, p: Place, s: &[u8]) -> Result<Place, Lost>
+    ensures place { IfOk result (λ q. q ≡ (passed_of p s.now).1) }
+    ensures replies { Wrote (is_ok result) (W.contents output.old) (W.contents output.new)
         (passed_of p s.now).0 }
 {
     let mut place = p;
-    let mut written = true;
     let mut at: usize = 0;
     while at < s.len() {
-        let q = line_fed(output, place, s, at, written);
-        at = q.step.at;
-        place = q.step.place;
-        written = q.written;
+        let q = line_fed(output, place, s, at)?;
+        at = q.at;
+        place = q.place;
     }
-    Fed { place, written }
+    Ok(place)
 }
 
 // The input ends: what a line that is begun brings is written.
-fn ended<W: Write>(output: &mut W, p: Place) -> bool
-    ensures { Wrote result (W.contents output.old) (W.contents output.new)
+fn ended<W: Write>(output: &mut W, p: Place) -> Result<(), Lost>
+    ensures { Wrote (is_ok result) (W.contents output.old) (W.contents output.new)
         (by_bytes p.state p.reader []) }
 {
     let mut out = [0u8; 512];
@@ -97,12 +91,12 @@ fn ended<W: Write>(output: &mut W, p: Place) -> bool
 // The whole input, part by part as reads give it. `whole`: every reply that is due was written, and nothing
 // else. `lost`: no more than a front of that. `cut`: where a read fails, be it the first or a later one, each
 // line before it was answered, and the line that it left open was not, so that no reply waits for a read.
-fn run<R: Read, W: Write>(input: &mut R, output: &mut W) -> End
-    ensures whole { result ≡ End.Whole → IfSome (R.remaining input.old)
-        (λ bs. Appends (W.contents output.old) (W.contents output.new) (output_of bs)) }
-    ensures lost { result ≡ End.WriteFailed → IfSome (R.remaining input.old)
+fn run<R: Read, W: Write>(input: &mut R, output: &mut W) -> Result<(), End>
+    ensures whole { OnOk result (IfSome (R.remaining input.old)
+        (λ bs. Appends (W.contents output.old) (W.contents output.new) (output_of bs))) }
+    ensures lost { result ≡ Err End.WriteFailed → IfSome (R.remaining input.old)
         (λ bs. Wrote false (W.contents output.old) (W.contents output.new) (output_of bs)) }
-    ensures cut { result ≢ End.Whole → result ≢ End.WriteFailed → (bs : List ℕ)
+    ensures cut { result ≢ Ok tt → result ≢ Err End.WriteFailed → (bs : List ℕ)
         × Consumes (R.remaining input.old) (R.remaining input.new) bs
         × Appends (W.contents output.old) (W.contents output.new) (passed_of first_place bs).0 }
 {
@@ -110,26 +104,19 @@ fn run<R: Read, W: Write>(input: &mut R, output: &mut W) -> End
     let mut place = fit_dialogue::opened();
     for _ in 0..u64::MAX {
         match input.read(&mut buf) {
-            Err(_) => return End::ReadFailed,
+            Err(_) => return Err(End::ReadFailed),
             Ok(0) => {
-                if ended(output, place) {
-                    return End::Whole;
-                }
-                return End::WriteFailed;
+                ended(output, place)?;
+                return Ok(());
             }
-            Ok(n) => {
-                let fed = fed_part(output, place, &buf[..n]);
-                place = fed.place;
-                if !fed.written {
-                    return End::WriteFailed;
-                }
-                if place.state.due == STOPPED {
-                    return End::Whole;
-                }
-            }
+            Ok(n) => place = fed_part(output, place, &buf[..n])?,
+        }
+        match place.state.due {
+            Form::Stopped => return Ok(()),
+            _ => {}
         }
     }
-    End::Unfinished
+    Err(End::Unfinished)
 }
 
 fn say_read_failed(rt: &impl Eprint) {
@@ -144,8 +131,8 @@ fn say_write_failed(rt: &impl Eprint) {
 // the system gives or takes, so `run` speaks of any reader and writer whose bytes are known.
 fn main(rt: HostRuntime) {
     match run(&mut rt.stdin(), &mut rt.stdout()) {
-        End::ReadFailed => say_read_failed(&rt),
-        End::WriteFailed => say_write_failed(&rt),
-        _ => {}
+        Err(End::ReadFailed) => say_read_failed(&rt),
+        Err(End::WriteFailed) => say_write_failed(&rt),
+        Err(End::Unfinished) | Ok(()) => {}
     }
 }

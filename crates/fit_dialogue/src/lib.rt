@@ -12,7 +12,7 @@ ghost use Rattle.fit_dialogue.specs.Program.{by_bytes, first_place, Stepped};
 use fit_line::{first, heard, second, second_gradient, third};
 pub use fit_state::{Scan, State, Turn, begun, scanned};
 use lines_options::{LineRead, Reader};
-use lines_reader::{ANSWERS, GRADIENT_LINE2, LINE1, LINE3, SIMPLEX_LINE2};
+use lines_reader::Form;
 
 // Where the program stands in its input: its state, and the line that is due as far as it has come.
 #[derive(Clone, Copy)]
@@ -31,83 +31,68 @@ pub struct Step {
 }
 
 // What a line brings, in every state. After the stop it brings nothing.
+#[tactic(auto, unfolding(crate::specs::Talk::decided_of))]
 pub fn decided(out: &mut [u8; 512], s: State, l: LineRead) -> Turn
     ensures { Turned (decided_of s l) out.old out.new result }
 {
-    let due = s.due;
-    if due == LINE1 {
-        return first(out, s, l);
+    match s.due {
+        Form::Stopped => Turn { count: 0, state: s },
+        Form::Line1 => first(out, s, l),
+        Form::SimplexLine2 => second(out, s, l),
+        Form::GradientLine2 => second_gradient(out, s, l),
+        Form::Line3 => third(out, s, l),
+        Form::Answers => heard(out, s, l),
     }
-    if due == SIMPLEX_LINE2 {
-        return second(out, s, l);
-    }
-    if due == GRADIENT_LINE2 {
-        return second_gradient(out, s, l);
-    }
-    if due == LINE3 {
-        return third(out, s, l);
-    }
-    if due == ANSWERS {
-        return heard(out, s, l);
-    }
-    Turn { count: 0, state: s }
 }
 
 // Before the first byte.
+#[tactic(auto, unfolding(crate::specs::Program::first_place))]
 pub fn opened() -> Place
     ensures { result ≡ first_place }
 {
     let state = begun();
-    let reader = lines_options::started(state.due);
-    Place { state, reader }
+    Place {
+        state,
+        reader: Reader::started(state.due),
+    }
 }
 
 // The line that is due, out of the bytes from a place on: what it brings, or nothing where it goes on
 // past them.
+#[tactic(auto, unfolding(crate::specs::Program::turned_of))]
 pub fn stepped(out: &mut [u8; 512], p: Place, s: &[u8], from: usize) -> Step
     ensures { Stepped p from (drop from s.now) out.old out.new result }
 {
-    let before = p.state;
-    let read = p.reader;
-    let q = scanned(s, from, read);
-    let at = q.at;
-    let reader = q.reader;
+    let q = scanned(s, from, p.reader);
     if q.ended {
-        let line = lines_options::finished(reader);
-        let turn = decided(out, before, line);
-        let state = turn.state;
-        let next = lines_options::started(state.due);
-        let place = Place {
-            state,
-            reader: next,
-        };
+        let turn = decided(out, p.state, q.reader.finished());
+        let reader = Reader::started(turn.state.due);
         return Step {
-            at,
+            at: q.at,
             count: turn.count,
-            place,
+            place: Place {
+                state: turn.state,
+                reader,
+            },
         };
     }
-    let place = Place {
-        state: before,
-        reader,
-    };
     Step {
-        at,
+        at: q.at,
         count: 0,
-        place,
+        place: Place {
+            state: p.state,
+            reader: q.reader,
+        },
     }
 }
 
 // The input ends: how many bytes are to be printed for a line that is begun.
+#[tactic(auto, unfolding(crate::specs::Program::by_bytes))]
 pub fn closed(out: &mut [u8; 512], p: Place) -> usize
     ensures { (result ≡ length (by_bytes p.state p.reader [])) × (out.new ≡ filled out.old (by_bytes p.state p.reader [])) }
 {
-    let state = p.state;
-    let reader = p.reader;
-    if lines_options::begun(reader) {
-        let line = lines_options::finished(reader);
-        let turn = decided(out, state, line);
-        return turn.count;
+    if p.reader.begun() {
+        return decided(out, p.state, p.reader.finished()).count;
     }
     0
 }

@@ -12,6 +12,7 @@ use Rattle.vector.specs.Lists.{first}
 use Rattle.protocol.specs.declared.Kind.{Kind}
 use Rattle.protocol.specs.declared.Found.{Found}
 use Rattle.protocol.specs.declared.Summary.{Summary}
+use Rattle.protocol.specs.declared.Refusal.{Refusal}
 use Rattle.protocol.specs.declared.Said.{Said}
 use Rattle.protocol.specs.declared.Said.TheVariants.{Ask, Fitted, Searched, Differenced, Refused}
 use Rattle.protocol.specs.Protocol.{Question, Result, reply_of}
@@ -47,9 +48,9 @@ end_shown w n x g s e h =
     (limited_is n few)
     ∙ sym (ap (λ (v : Said). reply_text (reply_of v n x g)) e)
 
-pub no_shown : (w : Said) (n : ℕ) (x g : List Float) (number detail : ℕ) → w ≡ Refused number detail → no_text number detail ≡ reply_text (reply_of w n x g)
+pub no_shown : (w : Said) (n : ℕ) (x g : List Float) (why : Refusal) → w ≡ Refused why → no_text why.number why.detail ≡ reply_text (reply_of w n x g)
 unfolding reply_text reply_of
-no_shown w n x g number detail e = sym (ap (λ (v : Said). reply_text (reply_of v n x g)) e)
+no_shown w n x g why e = sym (ap (λ (v : Said). reply_text (reply_of v n x g)) e)
 
 pub search_shown : (w : Said) (n : ℕ) (x g : List Float) (f : Found) → w ≡ Searched f → [] ≡ reply_text (reply_of w n x g)
 unfolding reply_text reply_of

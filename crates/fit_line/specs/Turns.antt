@@ -1,9 +1,11 @@
 -- What each line of the fit program brings: what is printed, and the next state. Definitions only.
-use Rattle.std.specs.Prelude.{ℕ, ◌≤◌, cond, List, [], take, Float}
+use Rattle.std.specs.Prelude.{ℕ, ◌≤◌, List, [], take, Float}
+use Rattle.std.specs.Option.{option_map_or}
 use Rattle.protocol.specs.Protocol.{fitted, searched, differenced, Reply, ask, ended, refused}
 use Rattle.optim.specs.Answer.{answer_of}
+use Rattle.lines_reader.specs.declared.Form.{Form}
+use Rattle.lines_reader.specs.declared.Form.TheVariants.{Stopped, Line3, Answers}
 use Rattle.lines_reader.specs.declared.LineRead.{LineRead}
-use Rattle.lines_reader.specs.Forms.{stopped, line3, answers}
 use Rattle.lines_forms.specs.Lines.{first_line_of, point_line_of, answer_line_of}
 use Rattle.lines_options.specs.Options.{simplex_line_of, gradient_line_of}
 use Rattle.lines_print.specs.Print.{ask_text, end_text, no_text}
@@ -26,37 +28,37 @@ Few (ask q) n = n ≤ 16
 Few (ended o) n = n ≤ 16
 Few (refused number detail) n = Unit {0}
 
--- ---- lines
+-- ---- lines: what was read, or bad
 
 -- Line 1
 unfoldable pub first_of : State → LineRead → List ℕ × State
 first_of s l =
-    let f = first_line_of l in
-    cond f.ok
-    ([], record { due = form_after f.job; number = following_of s.number; job = f.job; n = f.n; options = s.options; gradient = s.gradient; allowances = s.allowances; engine = s.engine })
+    option_map_or
+    (λ f. ([], record { due = form_after f.job; number = following_of s.number; job = f.job; n = f.n; options = s.options; gradient = s.gradient; allowances = s.allowances; engine = s.engine }))
+    (first_line_of l)
     (bad_of s)
 
 -- Line 2 of simplex
 unfoldable pub second_of : State → LineRead → List ℕ × State
 second_of s l =
-    let f = simplex_line_of l in
-    cond f.ok
-    ([], record { due = line3; number = following_of s.number; job = s.job; n = s.n; options = f.options; gradient = s.gradient; allowances = f.allowances; engine = s.engine })
+    option_map_or
+    (λ f. ([], record { due = Line3; number = following_of s.number; job = s.job; n = s.n; options = f.0; gradient = s.gradient; allowances = f.1; engine = s.engine }))
+    (simplex_line_of l)
     (bad_of s)
 
 -- Line 2 of bfgs and lbfgs
 unfoldable pub second_gradient_of : State → LineRead → List ℕ × State
 second_gradient_of s l =
-    let f = gradient_line_of l in
-    cond f.ok
-    ([], record { due = line3; number = following_of s.number; job = s.job; n = s.n; options = s.options; gradient = f.options; allowances = f.allowances; engine = s.engine })
+    option_map_or
+    (λ f. ([], record { due = Line3; number = following_of s.number; job = s.job; n = s.n; options = s.options; gradient = f.0; allowances = f.1; engine = s.engine }))
+    (gradient_line_of l)
     (bad_of s)
 
 -- "It stops after .. a refused start"
-unfoldable pub due_after : Reply → ℕ
-due_after (ask q) = answers
-due_after (ended o) = answers
-due_after (refused number detail) = stopped
+unfoldable pub due_after : Reply → Form
+due_after (ask q) = Answers
+due_after (ended o) = Answers
+due_after (refused number detail) = Stopped
 
 -- a start at x
 unfoldable pub started_of : State → List Float → List ℕ × State
@@ -66,7 +68,7 @@ started_of s x =
 
 -- Line 3
 unfoldable pub third_of : State → LineRead → List ℕ × State
-third_of s l = let f = point_line_of l s.n in cond f.ok (started_of s (take (kept_of s.n) f.x)) (bad_of s)
+third_of s l = option_map_or (λ x. started_of s (take (kept_of s.n) x)) (point_line_of l s.n) (bad_of s)
 
 -- "after a refused answer or an ended fit it reads on, printing each reply"
 unfoldable pub told_of : State → ℕ → ℕ → List Float → List ℕ × State
@@ -76,4 +78,4 @@ told_of s number kind words =
 
 -- an answer
 unfoldable pub heard_of : State → LineRead → List ℕ × State
-heard_of s l = let f = answer_line_of l in cond f.ok (told_of s f.number f.kind (take f.count f.words)) (bad_of s)
+heard_of s l = option_map_or (λ f. told_of s f.number f.kind (take f.count f.words)) (answer_line_of l) (bad_of s)

@@ -8,92 +8,86 @@ ghost use Rattle.optim_record.specs.Record.{outcome_of};
 ghost use Rattle.fit_state.specs.States.{Turned};
 ghost use Rattle.fit_line.specs.Turns.{reply_text, Few, due_after, first_of, second_of, second_gradient_of, started_of, third_of, told_of, heard_of};
 
-use fit_state::{State, Turn, bad, following, form_after, kept, start};
+use fit_state::{State, Turn, bad, form_after, kept, onward, start};
 use lines_options::LineRead;
-use lines_reader::{ANSWERS, LINE3, STOPPED};
+use lines_reader::Form;
 use optim::Answered;
 use protocol::Said;
 
 // Line 1.
+#[tactic(auto, unfolding(crate::specs::Turns::first_of))]
 pub fn first(out: &mut [u8; 512], s: State, l: LineRead) -> Turn
     ensures { Turned (first_of s l) out.old out.new result }
 {
-    let f = lines_options::first_line(l);
-    if f.ok {
-        let mut state = s;
-        state.due = form_after(f.job);
-        state.number = following(s.number);
-        state.job = f.job;
-        state.n = f.n;
-        return Turn { count: 0, state };
-    }
-    bad(out, s)
+    let Some(f) = lines_options::first_line(l) else {
+        return bad(out, s);
+    };
+    let state = State {
+        job: f.job,
+        n: f.n,
+        ..onward(s, form_after(f.job))
+    };
+    Turn { count: 0, state }
 }
 
 // Line 2 of simplex.
+#[tactic(auto, unfolding(crate::specs::Turns::second_of))]
 pub fn second(out: &mut [u8; 512], s: State, l: LineRead) -> Turn
     ensures { Turned (second_of s l) out.old out.new result }
 {
-    let f = lines_options::simplex_line(l);
-    let options = f.options;
-    let allowances = f.allowances;
-    if f.ok {
-        let mut state = s;
-        state.due = LINE3;
-        state.number = following(s.number);
-        state.options = options;
-        state.allowances = allowances;
-        return Turn { count: 0, state };
-    }
-    bad(out, s)
+    let Some((options, allowances)) = lines_options::simplex_line(l) else {
+        return bad(out, s);
+    };
+    let state = State {
+        options,
+        allowances,
+        ..onward(s, Form::Line3)
+    };
+    Turn { count: 0, state }
 }
 
-// Line 2 of bfgs and lbfgs.
+// Line 2 of bfgs and lbfgs. Its options stand in another field, which is all that tells it from that of simplex.
+#[tactic(auto, unfolding(crate::specs::Turns::second_gradient_of))]
 pub fn second_gradient(out: &mut [u8; 512], s: State, l: LineRead) -> Turn
     ensures { Turned (second_gradient_of s l) out.old out.new result }
 {
-    let f = lines_options::gradient_line(l);
-    let options = f.options;
-    let allowances = f.allowances;
-    if f.ok {
-        let mut state = s;
-        state.due = LINE3;
-        state.number = following(s.number);
-        state.gradient = options;
-        state.allowances = allowances;
-        return Turn { count: 0, state };
-    }
-    bad(out, s)
+    let Some((gradient, allowances)) = lines_options::gradient_line(l) else {
+        return bad(out, s);
+    };
+    let state = State {
+        gradient,
+        allowances,
+        ..onward(s, Form::Line3)
+    };
+    Turn { count: 0, state }
 }
 
 // A reply of the engine.
+#[tactic(auto, unfolding(optim_record::specs::Record::outcome_of))]
 fn shown(out: &mut [u8; 512], a: Answered) -> usize
     requires { Few (outcome_of a).0 a.next.n }
     ensures { (result ≡ length (reply_text (outcome_of a).0)) × (out.new ≡ filled out.old (reply_text (outcome_of a).0)) }
 {
-    let x = a.x;
-    let next = a.next;
-    let said = a.said;
-    match said {
-        Said::Ask(number, kind) => lines_print::put_ask(out, number, kind, x, next.n),
-        Said::Fitted(summary) => lines_print::put_end(out, summary, x, next.n),
+    match a.said {
+        Said::Ask(number, kind) => lines_print::put_ask(out, number, kind, a.x, a.next.n),
+        Said::Fitted(summary) => lines_print::put_end(out, summary, a.x, a.next.n),
         Said::Searched(_) => 0,
         Said::Differenced => 0,
-        Said::Refused(number, detail) => lines_print::put_no(out, number, detail),
+        Said::Refused(why) => lines_print::put_no(out, why.number, why.detail),
     }
 }
 
 // The form of the line that is due after the reply to a start: none after a refusal.
-fn due_after(a: Answered) -> u64
+#[tactic(auto, unfolding(crate::specs::Turns::due_after, optim_record::specs::Record::outcome_of, protocol::specs::Protocol::reply_of))]
+fn due_after(a: Answered) -> Form
     ensures { result ≡ due_after (outcome_of a).0 }
 {
-    let said = a.said;
-    match said {
-        Said::Ask(_, _) => ANSWERS,
-        Said::Fitted(_) => ANSWERS,
-        Said::Searched(_) => ANSWERS,
-        Said::Differenced => ANSWERS,
-        Said::Refused(_, _) => STOPPED,
+    match a.said {
+        Said::Ask(_, _) => Form::Answers,
+        Said::Fitted(_) => Form::Answers,
+        Said::Searched(_) => Form::Answers,
+        Said::Differenced => Form::Answers,
+        Said::Refused(_) => Form::Stopped,
     }
 }
 
@@ -103,25 +97,23 @@ fn started(out: &mut [u8; 512], s: State, x: &[f64]) -> Turn
 {
     let a = start(s, x);
     let count = shown(out, a);
-    let next = a.next;
-    let mut state = s;
-    state.due = due_after(a);
-    state.number = following(s.number);
-    state.engine = next;
+    let state = State {
+        engine: a.next,
+        ..onward(s, due_after(a))
+    };
     Turn { count, state }
 }
 
 // Line 3.
+#[tactic(auto, unfolding(crate::specs::Turns::third_of))]
 pub fn third(out: &mut [u8; 512], s: State, l: LineRead) -> Turn
     ensures { Turned (third_of s l) out.old out.new result }
 {
-    let f = lines_options::point_line(l, s.n);
-    if f.ok {
-        let x = f.x;
-        let k = kept(s.n);
-        return started(out, s, &x[..k]);
-    }
-    bad(out, s)
+    let Some(x) = lines_options::point_line(l, s.n) else {
+        return bad(out, s);
+    };
+    let k = kept(s.n);
+    started(out, s, &x[..k])
 }
 
 // The engine is told an answer.
@@ -130,21 +122,21 @@ fn told(out: &mut [u8; 512], s: State, number: u64, kind: u8, words: &[f64]) -> 
 {
     let a = optim::answer(s.engine, number, kind, words);
     let count = shown(out, a);
-    let next = a.next;
-    let mut state = s;
-    state.number = following(s.number);
-    state.engine = next;
+    let state = State {
+        engine: a.next,
+        ..onward(s, s.due)
+    };
     Turn { count, state }
 }
 
 // An answer.
+#[tactic(auto, unfolding(crate::specs::Turns::heard_of))]
 pub fn heard(out: &mut [u8; 512], s: State, l: LineRead) -> Turn
     ensures { Turned (heard_of s l) out.old out.new result }
 {
-    let f = lines_options::answer_line(l);
-    if f.ok {
-        let words = f.words;
-        return told(out, s, f.number, f.kind, &words[..f.count]);
-    }
-    bad(out, s)
+    let Some(f) = lines_options::answer_line(l) else {
+        return bad(out, s);
+    };
+    let words = f.words;
+    told(out, s, f.number, f.kind, &words[..f.count])
 }

@@ -1,14 +1,14 @@
 -- The state of the fit program between two lines, and what several lines share. Definitions only.
-use Rattle.std.specs.Prelude.{ℕ, ◌+◌, ◌≡◌, true, false, cond, List, [], ◌∷◌, length, eqb, ltb, Float}
-use Rattle.protocol.specs.declared.Allowance.{Allowance}
+use Rattle.std.specs.Prelude.{ℕ, ◌+◌, ◌≡◌, true, false, cond, List, [], ◌∷◌, length, min, eqb, None, Float}
 use Rattle.protocol.specs.Protocol.{Reply, simplex_mark, bfgs_mark}
 use Rattle.optim_record.specs.declared.Record.{Record}
 use Rattle.optim_record.specs.Record.{blank_of, no_options, wolfe_options_of, no_gradient_options}
 use Rattle.optim_start.specs.Start.{simplex_of, bfgs_of, lbfgs_of}
 use Rattle.lines_field.specs.Shapes.{most}
+use Rattle.lines_reader.specs.declared.Form.{Form}
+use Rattle.lines_reader.specs.declared.Form.TheVariants.{Stopped, Line1, SimplexLine2, GradientLine2}
 use Rattle.lines_reader.specs.declared.Reader.{Reader}
 use Rattle.lines_reader.specs.Reader.{fed_of}
-use Rattle.lines_reader.specs.Forms.{stopped, line1, simplex_line2, gradient_line2}
 use Rattle.lines_buffer.specs.Texts.{filled}
 use Rattle.lines_print.specs.Print.{bad_text}
 use Rattle.fit_state.specs.declared.Scan.{Scan}
@@ -17,27 +17,28 @@ use Rattle.fit_state.specs.declared.Turn.{Turn}
 
 -- ---- states
 
-abbrev pub no_allowance : Allowance
-no_allowance = record { given = false; count = 0 }
-
 -- before line 1
 unfoldable pub begun_of : State
 unfolding blank_of wolfe_options_of
 begun_of =
     record {
-      due = line1;
+      due = Line1;
       number = 1;
       job = 0;
       n = 0;
       options = no_options;
       gradient = no_gradient_options;
-      allowances = record { iter = no_allowance; fevals = no_allowance };
+      allowances = record { iter = None; fevals = None };
       engine = blank_of;
     }
 
 -- the number of the next line; an input of 2^64 lines is not to be had, and the number stays there
-unfoldable pub following_of : ℕ → ℕ
-following_of number = cond (ltb number most) (number + 1) number
+abbrev pub following_of : ℕ → ℕ
+following_of number = min (number + 1) most
+
+-- after a line that is not bad: a line of another form is due, the next in number
+abbrev pub onward_of : State → Form → State
+onward_of s due = record { due = due; number = following_of s.number; job = s.job; n = s.n; options = s.options; gradient = s.gradient; allowances = s.allowances; engine = s.engine }
 
 -- ---- a turn: what is printed, and the next state
 
@@ -47,11 +48,11 @@ Turned t before after r = (r ≡ record { count = length t.0; state = t.1 }) × 
 
 -- "`bad` and the line number for a line of another form. It stops after `bad`"
 unfoldable pub bad_of : State → List ℕ × State
-bad_of s = (bad_text s.number, record { due = stopped; number = s.number; job = s.job; n = s.n; options = s.options; gradient = s.gradient; allowances = s.allowances; engine = s.engine })
+bad_of s = (bad_text s.number, record { due = Stopped; number = s.number; job = s.job; n = s.n; options = s.options; gradient = s.gradient; allowances = s.allowances; engine = s.engine })
 
 -- the form of line 2, by the job that line 1 said
-unfoldable pub form_after : ℕ → ℕ
-form_after job = cond (eqb job simplex_mark) simplex_line2 gradient_line2
+unfoldable pub form_after : ℕ → Form
+form_after job = cond (eqb job simplex_mark) SimplexLine2 GradientLine2
 
 -- ---- a start
 
@@ -63,8 +64,8 @@ start_of s x =
     (lbfgs_of x s.gradient s.allowances))
 
 -- seventeen words of a longer point: a list of more than sixteen is refused with 2, whatever it holds
-unfoldable pub kept_of : ℕ → ℕ
-kept_of n = cond (ltb n 17) n 17
+abbrev pub kept_of : ℕ → ℕ
+kept_of n = min n 17
 
 -- ---- a scan
 

@@ -4,19 +4,19 @@
 
 ghost use Rattle.std.specs.Prelude.{◌≡◌, drop};
 ghost use Rattle.optim_record.specs.Record.{outcome_of};
-ghost use Rattle.fit_state.specs.States.{Turned, begun_of, following_of, kept_of, bad_of, form_after, start_of, scanned_of};
+ghost use Rattle.fit_state.specs.States.{Turned, begun_of, onward_of, kept_of, bad_of, form_after, start_of, scanned_of};
 
 use lines_options::Reader;
-use lines_reader::{GRADIENT_LINE2, LINE1, SIMPLEX_LINE2, STOPPED};
+use lines_reader::Form;
 use optim::{Answered, Record};
-use protocol::{Allowance, Allowances, BFGS, GradientOptions, SIMPLEX, SimplexOptions};
+use protocol::{Allowances, BFGS, GradientOptions, SIMPLEX, SimplexOptions};
 
-// The state between two lines. `due` is the form of the line that is due; at a number that is no form's, STOPPED
-// as the program sets it, it has stopped. `number` is that line's number. The job's mark, n, the options (those
-// of simplex, or `gradient`) and allowances are what lines 1 and 2 said, `engine` is the engine's record.
+// The state between two lines. `due` is the form of the line that is due, `Stopped` once the program has stopped.
+// `number` is that line's number. The job's mark, n, the options (those of simplex, or `gradient`) and allowances
+// are what lines 1 and 2 said, `engine` is the engine's record. The mark is a number, as line 1's field gives it.
 #[derive(Clone, Copy)]
 pub struct State {
-    pub due: u64,
+    pub due: Form,
     pub number: u64,
     pub job: u64,
     pub n: u64,
@@ -33,7 +33,8 @@ pub struct Turn {
     pub state: State,
 }
 
-// Where a scan of bytes came to, whether a line feed ended it, and the line as far as it has come.
+// Where a scan of bytes came to, whether a line feed ended it, and the line as far as it has come. The place and
+// the line are there either way.
 #[derive(Clone, Copy)]
 pub struct Scan {
     pub at: usize,
@@ -42,73 +43,71 @@ pub struct Scan {
 }
 
 // The state before line 1.
+#[tactic(auto, unfolding(crate::specs::States::begun_of))]
 pub fn begun() -> State
     ensures { result ≡ begun_of }
 {
-    let engine = optim::blank();
-    let options = optim_record::no_options();
-    let gradient = optim_record::no_gradient_options();
-    let none = Allowance {
-        given: false,
-        count: 0,
-    };
-    let allowances = Allowances {
-        iter: none,
-        fevals: none,
-    };
     State {
-        due: LINE1,
+        due: Form::Line1,
         number: 1,
         job: 0,
         n: 0,
-        options,
-        gradient,
-        allowances,
-        engine,
+        options: optim_record::no_options(),
+        gradient: optim_record::no_gradient_options(),
+        allowances: Allowances {
+            iter: None,
+            fevals: None,
+        },
+        engine: optim::blank(),
     }
 }
 
-// The number of the line after this one; it stays at the largest u64.
-pub fn following(number: u64) -> u64
-    ensures { result ≡ following_of number }
+// The state after a line that is not bad: the next one has its form and its number, which stays at the largest u64.
+pub fn onward(s: State, due: Form) -> State
+    ensures { result ≡ onward_of s due }
 {
-    if number < 0xffff_ffff_ffff_ffff {
-        return number + 1;
+    State {
+        due,
+        number: s.number.saturating_add(1),
+        ..s
     }
-    number
 }
 
 // How many of a point's words are lent to the engine: seventeen are as refused as more.
 pub fn kept(n: u64) -> usize
     ensures { result ≡ kept_of n }
 {
-    if n < 17 {
-        return n as usize;
-    }
-    17
+    n.min(17) as usize
 }
 
 // The line is bad: the program stops.
+#[tactic(auto, unfolding(crate::specs::States::bad_of))]
 pub fn bad(out: &mut [u8; 512], s: State) -> Turn
     ensures { Turned (bad_of s) out.old out.new result }
 {
     let count = lines_print::put_bad(out, s.number);
-    let mut state = s;
-    state.due = STOPPED;
-    Turn { count, state }
+    Turn {
+        count,
+        state: State {
+            due: Form::Stopped,
+            ..s
+        },
+    }
 }
 
 // The form of line 2.
-pub fn form_after(job: u64) -> u64
+#[tactic(auto, unfolding(crate::specs::States::form_after))]
+pub fn form_after(job: u64) -> Form
     ensures { result ≡ form_after job }
 {
     if job == SIMPLEX {
-        return SIMPLEX_LINE2;
+        return Form::SimplexLine2;
     }
-    GRADIENT_LINE2
+    Form::GradientLine2
 }
 
 // The engine's reply to the start of the job at x.
+#[tactic(auto, unfolding(crate::specs::States::start_of))]
 pub fn start(s: State, x: &[f64]) -> Answered
     ensures { outcome_of result ≡ start_of s x.now }
 {
@@ -126,22 +125,19 @@ pub fn scanned(s: &[u8], from: usize, r: Reader) -> Scan
     ensures { result ≡ scanned_of from (drop from s.now) r }
 {
     let mut reader = r;
-    let mut i = from;
-    while i < s.len() {
+    for i in from..s.len() {
         let b = s[i];
-        i += 1;
         if b == b'\n' {
             return Scan {
-                at: i,
+                at: i + 1,
                 ended: true,
                 reader,
             };
         }
-        let q = lines_options::fed(reader, b);
-        reader = q;
+        reader = reader.fed(b);
     }
     Scan {
-        at: i,
+        at: from.max(s.len()),
         ended: false,
         reader,
     }

@@ -5,9 +5,10 @@ use mathlib.Core.Bool.{Bool, true, false, not, cond}
 use mathlib.Core.List.{List, [], ◌∷◌, ◌++◌, append-nil, append_assoc}
 use lib.Dec.{eqb}
 use Rattle.float.proofs.Tests.{by}
+use Rattle.lines_reader.specs.declared.Form.TheVariants.{Stopped}
 use Rattle.lines_reader.specs.declared.LineRead.{LineRead}
 use Rattle.lines_reader.specs.declared.Reader.{Reader}
-use Rattle.lines_reader.specs.Forms.{empty, line_of, stopped}
+use Rattle.lines_reader.specs.Forms.{empty, line_of}
 use Rattle.lines_reader.specs.Reader.{started_of, fed_of, fed_all, finished_of, begun_of as line_begun}
 use Rattle.lines_theory.proofs.Whole.{reader_laws}
 use Rattle.fit_dialogue.specs.declared.Place.{Place}
@@ -102,11 +103,11 @@ part_goes p (b ∷ bs) cs =
 
 -- ---- after the stop
 
-decided_stopped : (s : State) (l : LineRead) → s.due ≡ stopped → decided_of s l ≡ ([], s)
+decided_stopped : (s : State) (l : LineRead) → s.due ≡ Stopped → decided_of s l ≡ ([], s)
 unfolding decided_of
 decided_stopped s l e = rw e
 
-silent : (s : State) (r : Reader) (bs : List ℕ) → s.due ≡ stopped → by_bytes s r bs ≡ []
+silent : (s : State) (r : Reader) (bs : List ℕ) → s.due ≡ Stopped → by_bytes s r bs ≡ []
 unfolding by_bytes
 silent s r [] e = by (line_begun r) (λ p. rw (p, decided_stopped s (finished_of r) e)) (λ p. rw p)
 silent s r (b ∷ bs) e =

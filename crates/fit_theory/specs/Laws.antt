@@ -1,8 +1,9 @@
 -- What the program prints, part by part and step by step, is what 01 says of its lines. Statements only.
-use Rattle.std.specs.Prelude.{ℕ, ◌≤◌, ◌≡◌, true, List, [], ◌++◌}
+use Rattle.std.specs.Prelude.{ℕ, ◌≤◌, ◌≡◌, List, [], ◌++◌, IfSome}
 use Rattle.protocol.specs.Protocol.{simplex_mark, lbfgs_mark}
+use Rattle.lines_reader.specs.declared.Form.TheVariants.{Stopped, Line1}
 use Rattle.lines_reader.specs.declared.Reader.{Reader}
-use Rattle.lines_reader.specs.Forms.{line_of, stopped, line1}
+use Rattle.lines_reader.specs.Forms.{line_of}
 use Rattle.lines_forms.specs.Lines.{first_line_of}
 use Rattle.fit_dialogue.specs.declared.Place.{Place}
 use Rattle.fit_state.specs.declared.State.{State}
@@ -25,6 +26,6 @@ pub record ProgramLaws : Type 0 where
   -- a step, and then the rest of the part
   pub step_goes : (p : Place) (i : ℕ) (bs : List ℕ) → passed_of p bs ≡ scanned_then p i bs (scanned_of i bs p.reader)
   -- "It stops after `bad`, a refused start": nothing more is printed
-  pub silent : (s : State) (r : Reader) (bs : List ℕ) → s.due ≡ stopped → by_bytes s r bs ≡ []
+  pub silent : (s : State) (r : Reader) (bs : List ℕ) → s.due ≡ Stopped → by_bytes s r bs ≡ []
   -- line 1 has one of three jobs: what is neither simplex nor bfgs is lbfgs
-  pub jobs : (bs : List ℕ) → (first_line_of (line_of line1 bs)).ok ≡ true → FitMark (first_line_of (line_of line1 bs)).job
+  pub jobs : (bs : List ℕ) → IfSome (first_line_of (line_of Line1 bs)) (λ f. FitMark f.job)

@@ -5,7 +5,7 @@ use native.Mathlib.Nat.{add_assoc, zero-add, lt_of_not-le}
 use native.Mathlib.Omega.{arith}
 use mathlib.Core.Bool.{Bool, true, false, not, cond, true≢false}
 use lib.IntN.{ℤ, pos}
-use lib.Dec.{T, leb, ltb, eqb-suc-zero}
+use lib.Dec.{T, eqb, leb, ltb, eqb-suc-zero}
 use lib.Ieee.{Float, nan, inf, fin, up, down, binary64, ne, is_nan, nan_bits, fits, to_bits, of_bits, of_fields, top, hid}
 use lib.Ieee.Bits.{of_bits-to_bits, to_bits-lt, nan_bits_is, nan_bits_above}
 use lib.Ieee.Compare.{differs_from_itself}
@@ -128,20 +128,13 @@ magnitude x f h = and_mask (to_bits binary64 x) 63 ∙ off (negative x) (to_bits
 pub sign_bit : (x : Float) → F64 x → Number x → to_bits binary64 x / 2 ^ 63 ≡ cond (negative x) 1 0
 sign_bit x f h = alone (negative x) (to_bits binary64 (abs_of x)) (to_bits binary64 x) (parted x h) (abs_most x f h)
 
--- the sign by its bit, as a test leaves it
-pub plus : (x : Float) → F64 x → Number x → to_bits binary64 x / 2 ^ 63 ≡ 0 → negative x ≡ false
-plus x f h z = go (negative x) (sym (sign_bit x f h) ∙ z)
+-- the sign by its bit, as the code tests it
+pub sign_test : (x : Float) → F64 x → Number x → eqb (to_bits binary64 x / 2 ^ 63) 1 ≡ negative x
+sign_test x f h = rw (sign_bit x f h) (go (negative x))
   where
-    go : (s : Bool) → ◌≡◌ {A = ℕ} (cond s 1 0) 0 → s ≡ false
-    go true e = absurd (omega arith)
-    go false e = refl
-
-pub minus : (x : Float) → F64 x → Number x → (to_bits binary64 x / 2 ^ 63 ≡ 0 → ⊥) → negative x ≡ true
-minus x f h n = go (negative x) (sign_bit x f h)
-  where
-    go : (s : Bool) → to_bits binary64 x / 2 ^ 63 ≡ cond s 1 0 → s ≡ true
-    go true e = refl
-    go false e = absurd (n e)
+    go : (s : Bool) → eqb (cond {A = ℕ} s 1 0) 1 ≡ s
+    go true = refl
+    go false = refl
 
 -- ---- |x| and finiteness
 pub abs_is : (x : Float) → F64 x → Number x → bits (bit_and (to_bits binary64 x) 0x7fff_ffff_ffff_ffff) ≡ abs_of x
@@ -167,14 +160,8 @@ finite_is x f h = rw (exponent x f h) (go x f h)
         unfold abs_of finite_of in lt-ltb (to_bits binary64 (fin false m e) / 2 ^ 52) 0x7ff (omega arith)
 
 -- ---- the sign as a number
-signum_of_lem : (x : Float) → Number x → signum_of x ≡ fin (negative x) 1 (pos 0)
+pub signum_sign : (x : Float) → Number x → signum_of x ≡ fin (negative x) 1 (pos 0)
 unfolding is_nan signum_of
-signum_of_lem nan h = absurd h
-signum_of_lem (inf s) h = refl
-signum_of_lem (fin s m e) h = refl
-
-pub signum_plus : (x : Float) → F64 x → Number x → to_bits binary64 x / 2 ^ 63 ≡ 0 → fin false 1 (pos 0) ≡ signum_of x
-signum_plus x f h z = sym (signum_of_lem x h ∙ ap (λ (s : Bool). fin s 1 (pos 0)) (plus x f h z))
-
-pub signum_minus : (x : Float) → F64 x → Number x → (to_bits binary64 x / 2 ^ 63 ≡ 0 → ⊥) → fin true 1 (pos 0) ≡ signum_of x
-signum_minus x f h z = sym (signum_of_lem x h ∙ ap (λ (s : Bool). fin s 1 (pos 0)) (minus x f h z))
+signum_sign nan h = absurd h
+signum_sign (inf s) h = refl
+signum_sign (fin s m e) h = refl

@@ -2,8 +2,10 @@
 // taken apart by shifts and masks. A NaN's bits are free and are never read, so it goes first.
 #![tactic(auto)]
 
-ghost use Rattle.std.specs.Prelude.{◌≡◌, ◌*◌, ◌^◌, ◌≤◌, ◌<◌};
-ghost use Rattle.std.specs.Float.Ieee.{lt};
+ghost use Rattle.std.specs.Prelude.{◌≡◌, ◌*◌, ◌^◌, ◌≤◌, ◌<◌, pos};
+ghost use Rattle.std.specs.Float.{binary64};
+ghost use Rattle.std.specs.Float.Ieee.{lt, to_bits};
+ghost use Rattle.float.specs.Binary64.{Number, negative};
 ghost use Rattle.float.specs.Values.{abs_of, finite_of, signum_of, max_of, min_of, tolerance_of, positive_of};
 ghost use Rattle.float.specs.Order.{rank_of, key_of, precedes_of};
 ghost use Rattle.float.specs.Roots.{difference_factor};
@@ -38,44 +40,52 @@ pub fn is_finite(x: f64) -> bool
 pub fn tolerance(x: f64) -> bool
     ensures { result ≡ tolerance_of x }
 {
-    if 0.0 <= x {
-        return is_finite(x);
-    }
-    false
+    0.0 <= x && is_finite(x)
 }
 
+// Likewise, and not zero. One function of both would say no less.
 pub fn positive(x: f64) -> bool
     ensures { result ≡ positive_of x }
 {
-    if 0.0 < x {
-        return is_finite(x);
-    }
-    false
+    0.0 < x && is_finite(x)
 }
 
+#[tactic(auto, using(crate::proofs::Bits::number))]
 pub fn signum(x: f64) -> f64
     ensures { result ≡ signum_of x }
 {
     if x != x {
         return x;
     }
-    if f64::to_bits(x) >> 63 == 0 {
-        1.0
-    } else {
-        -1.0
-    }
+    if is_negative(x) { -1.0 } else { 1.0 }
+}
+
+// Whether a number has a minus, a zero too.
+fn is_negative(x: f64) -> bool
+    requires { Number x }
+    ensures { result ≡ negative x }
+{
+    f64::to_bits(x) >> 63 == 1
+}
+
+// The bits of |x|, which an i64 holds.
+fn magnitude(x: f64) -> i64
+    requires { Number x }
+    ensures { result ≡ pos (to_bits binary64 (abs_of x)) }
+{
+    (f64::to_bits(x) & MAGNITUDE) as i64
 }
 
 // The bits of |x| with the sign of x, by which numbers compare as `<` has them.
+#[tactic(auto, using(crate::proofs::Bits::number))]
 fn rank(x: f64) -> i64
     ensures { result ≡ rank_of x }
 {
     if x != x {
-        return 0x7fff_ffff_ffff_ffff;
+        return i64::MAX;
     }
-    let b = f64::to_bits(x);
-    let m = (b & MAGNITUDE) as i64;
-    if b >> 63 == 0 { m } else { 0 - m }
+    let m = magnitude(x);
+    if is_negative(x) { 0 - m } else { m }
 }
 
 // a < b
@@ -91,6 +101,7 @@ fn less(a: f64, b: f64) -> bool
     rank(a) < rank(b)
 }
 
+// max and min ask `less` of the operands in either order: one function of both would say no less.
 pub fn max(a: f64, b: f64) -> f64
     ensures { result ≡ max_of a b }
 {
@@ -110,15 +121,15 @@ pub fn min(a: f64, b: f64) -> f64
 }
 
 // The key of `total_cmp`.
+#[tactic(auto, using(crate::proofs::Bits::number))]
 pub fn key(x: f64) -> i64
     ensures { result ≡ key_of x }
 {
     if x != x {
-        return 0x7fff_ffff_ffff_ffff;
+        return i64::MAX;
     }
-    let b = f64::to_bits(x);
-    let m = (b & MAGNITUDE) as i64;
-    if b >> 63 == 0 { m } else { -1 - m }
+    let m = magnitude(x);
+    if is_negative(x) { -1 - m } else { m }
 }
 
 // Whether a comes before b in IEEE 754's total order: -0.0 before +0.0, a NaN last.

@@ -1,21 +1,21 @@
-// Bytes, texts, numbers and values put into a lent buffer at a place. Each function that puts something
-// returns the place after it; the other bytes stay as they were.
+// A text that is being printed: bytes, numbers and values put one behind another.
 #![tactic(auto)]
 
-ghost use Rattle.std.specs.Prelude.{◌≡◌, [], ◌∷◌, ◌+◌, ◌≤◌, ◌<◌, length};
+ghost use Rattle.std.specs.Prelude.{◌≡◌, ℕ, List, [], ◌∷◌, ◌++◌, ◌+◌, ◌*◌, ◌≤◌, ◌<◌, length, take};
 ghost use Rattle.std.specs.Float.Ieee.{to_bits};
 ghost use Rattle.std.specs.Float.{binary64};
-ghost use Rattle.vector.specs.Lists.{first};
-ghost use Rattle.lines_buffer.specs.Texts.{Written, glyph_of, numeral, places_of, decimal_text, value_text, values_text};
+ghost use Rattle.lines_buffer.specs.Texts.{filled, glyph_of, numeral, places_of, decimal_text, value_text, values_text};
+
+use std::marker::Model;
 
 // The bits of a value, one pattern for every NaN.
-fn bits(x: f64) -> u64
+pub fn bits(x: f64) -> u64
     ensures { result ≡ to_bits binary64 x }
 {
-    if x != x {
+    if x.is_nan() {
         return 0x7ff8_0000_0000_0000;
     }
-    f64::to_bits(x)
+    x.to_bits()
 }
 
 fn glyph(d: u64) -> u8
@@ -23,106 +23,128 @@ fn glyph(d: u64) -> u8
     ensures { result ≡ glyph_of d }
 {
     if d < 10 {
-        return (48 + d) as u8;
+        return b'0' + d as u8;
     }
-    (55 + d) as u8
+    b'A' + (d - 10) as u8
 }
 
-pub fn put_byte(out: &mut [u8], at: usize, b: u8) -> usize
-    requires { at < length out.old }
-    ensures { Written out.old at out.new result (b ∷ []) }
+// The last digits of n to the base, as many as there is room for.
+fn put_digits(out: &mut [u8], base: u64, n: u64)
+    requires { (1 < base) × (base ≤ 16) }
+    ensures { out.new ≡ numeral base (length out.old) n }
 {
-    out[at] = b;
-    at + 1
-}
-
-// The last k digits of n to the base.
-fn put_digits(out: &mut [u8], at: usize, base: u64, k: usize, n: u64) -> usize
-    requires lt_base { (1 < base) × (base ≤ 16) }
-    requires k_in_bounds { at + k ≤ length out.old }
-    ensures { Written out.old at out.new result (numeral base k n) }
-{
-    let mut i = k;
     let mut rest = n;
-    while i > 0 {
-        i -= 1;
-        let j = at + i;
-        out[j] = glyph(rest % base);
+    for i in (0..out.len()).rev() {
+        out[i] = glyph(rest % base);
         rest /= base;
     }
-    at + k
 }
 
 // How many decimal digits n has.
 fn places(n: u64) -> usize
     ensures { (result ≡ places_of n) × (result ≤ 20) }
 {
-    let mut k: usize = 19;
-    let mut rest = n;
-    let mut more: usize = 0;
-    while k > 0 {
-        if rest < 10 {
-            return more + 1;
+    n.checked_ilog10().map_or(1, |k| k as usize + 1)
+}
+
+// At most 512 bytes, seen as the list of them. No heap, so no `String`.
+#[derive(Drop)]
+pub struct Text {
+    bytes: [u8; 512],
+    len: usize,
+}
+
+impl Model for Text {
+    ghost Value = { List ℕ };
+
+    ghost view = { λ t. take t.len t.bytes };
+
+    ghost invariant = { λ t. t.len ≤ 512 };
+}
+
+impl Text {
+    pub fn new() -> Text
+        ensures { result ≡ [] }
+    {
+        Text {
+            bytes: [0; 512],
+            len: 0,
         }
-        rest /= 10;
-        more += 1;
-        k -= 1;
     }
-    more + 1
-}
 
-pub fn put_decimal(out: &mut [u8], at: usize, n: u64) -> usize
-    requires { at + 20 ≤ length out.old }
-    ensures { (result ≤ at + 20) × Written out.old at out.new result (decimal_text n) }
-{
-    let k = places(n);
-    put_digits(out, at, 10, k, n)
-}
-
-// A decimal with a space before it.
-pub fn put_count(out: &mut [u8], at: usize, n: u64) -> usize
-    requires { at + 21 ≤ length out.old }
-    ensures { (result ≤ at + 21) × Written out.old at out.new result (32 ∷ decimal_text n) }
-{
-    let a = put_byte(out, at, b' ');
-    put_decimal(out, a, n)
-}
-
-// A value's bits with a space before them.
-pub fn put_value(out: &mut [u8], at: usize, x: f64) -> usize
-    requires { at + 17 ≤ length out.old }
-    ensures { (result ≡ at + 17) × Written out.old at out.new result (32 ∷ value_text x) }
-{
-    let w = bits(x);
-    let a = put_byte(out, at, b' ');
-    put_digits(out, a, 16, 16, w)
-}
-
-// The first n of sixteen coordinates, each with a space before it.
-pub fn put_values(out: &mut [u8], at: usize, x: [f64; 16], n: usize) -> usize
-    requires n_bound { n ≤ 16 }
-    requires at_in_bounds { at + 272 ≤ length out.old }
-    ensures { (result ≤ at + 272) × Written out.old at out.new result (values_text (first n x)) }
-{
-    let mut p = at;
-    let mut i: usize = 0;
-    while i < n {
-        let v = x[i];
-        p = put_value(out, p, v);
-        i += 1;
+    pub fn push(&mut self, b: u8)
+        requires { length self.old < 512 }
+        ensures { self.new ≡ self.old ++ (b ∷ []) }
+    {
+        self.bytes[self.len] = b;
+        self.len += 1;
     }
-    p
-}
 
-pub fn put_text(out: &mut [u8], at: usize, s: &[u8]) -> usize
-    requires { at + length s.now ≤ length out.old }
-    ensures { Written out.old at out.new result s.now }
-{
-    let mut i: usize = 0;
-    while i < s.len() {
-        let j = at + i;
-        out[j] = s[i];
-        i += 1;
+    pub fn push_bytes(&mut self, s: &[u8])
+        requires { length self.old + length s.now ≤ 512 }
+        ensures { self.new ≡ self.old ++ s.now }
+    {
+        let at = self.len;
+        self.len = at + s.len();
+        self.bytes[at..self.len].copy_from_slice(s);
     }
-    at + i
+
+    // The last k digits of n to the base.
+    fn push_digits(&mut self, base: u64, k: usize, n: u64)
+        requires lt_base { (1 < base) × (base ≤ 16) }
+        requires room { length self.old + k ≤ 512 }
+        ensures { self.new ≡ self.old ++ numeral base k n }
+    {
+        let at = self.len;
+        self.len = at + k;
+        put_digits(&mut self.bytes[at..self.len], base, n);
+    }
+
+    pub fn push_decimal(&mut self, n: u64)
+        requires { length self.old + 20 ≤ 512 }
+        ensures text { self.new ≡ self.old ++ decimal_text n }
+        ensures room { length self.new ≤ length self.old + 20 }
+    {
+        self.push_digits(10, places(n), n);
+    }
+
+    // A decimal with a space before it.
+    pub fn push_count(&mut self, n: u64)
+        requires { length self.old + 21 ≤ 512 }
+        ensures text { self.new ≡ self.old ++ (32 ∷ decimal_text n) }
+        ensures room { length self.new ≤ length self.old + 21 }
+    {
+        self.push(b' ');
+        self.push_decimal(n);
+    }
+
+    // A value's bits with a space before them.
+    pub fn push_value(&mut self, x: f64)
+        requires { length self.old + 17 ≤ 512 }
+        ensures text { self.new ≡ self.old ++ (32 ∷ value_text x) }
+        ensures room { length self.new ≡ length self.old + 17 }
+    {
+        self.push(b' ');
+        self.push_digits(16, 16, bits(x));
+    }
+
+    // Values, each with a space before it.
+    pub fn push_values(&mut self, xs: &[f64])
+        requires { length self.old + 17 * length xs.now ≤ 512 }
+        ensures text { self.new ≡ self.old ++ values_text xs.now }
+        ensures room { length self.new ≡ length self.old + 17 * length xs.now }
+    {
+        for x in xs {
+            self.push_value(*x);
+        }
+    }
+
+    // Put at the start of a lent buffer, whose other bytes stay; and how many bytes it has.
+    pub fn put(&self, out: &mut [u8; 512]) -> usize
+        ensures text { (result ≡ length self.now) × (out.new ≡ filled out.old self.now) }
+        ensures fits { result ≤ 512 }
+    {
+        out[..self.len].copy_from_slice(&self.bytes[..self.len]);
+        self.len
+    }
 }

@@ -1,31 +1,27 @@
 -- What each function of a field makes, for every struct that it is given. Definitions only.
-use Rattle.std.specs.Prelude.{ℕ, ◌+◌, ◌*◌, Bool, true, false, cond, eqb, leb, ltb}
+use Rattle.std.specs.Prelude.{ℕ, ◌+◌, ◌*◌, Bool, ◌&&◌, cond, eqb, leb, ltb, Option, None, Some}
+use Rattle.std.specs.Option.{option_eq}
 use Rattle.protocol.specs.declared.Kind.TheVariants.{Value, Gradient}
 use Rattle.protocol.specs.Protocol.{letter as kind_letter, simplex_mark, bfgs_mark, lbfgs_mark}
-use Rattle.lines_field.specs.declared.Sum.{Sum}
+use Rattle.lines_field.specs.declared.Shape.{Shape}
+use Rattle.lines_field.specs.declared.Shape.TheVariants.{Word, Decimal, Maybe, Flag, Letter, Job, Nothing}
 use Rattle.lines_field.specs.declared.Field.{Field}
 use Rattle.lines_field.specs.declared.Reading.{Reading}
-use Rattle.lines_field.specs.Shapes.{most, digit_of, malformed, formed, absent, word, decimal, maybe, flag, letter, job}
+use Rattle.lines_field.specs.Shapes.{most, digit_in, malformed, formed, absent}
 
 -- ---- numbers
 
--- no digit yet
-abbrev pub nought : Sum
-nought = record { fits = true; value = 0 }
-
--- a digit that is none of the base, or too large a number: no later digit mends it
-abbrev pub lost_of : Sum → Sum
-lost_of s = record { fits = false; value = s.value }
-
--- one digit more to the base
-unfoldable pub grow_of : ℕ → Sum → ℕ → Sum
-grow_of base s d = cond (ltb d base) (cond (leb (s.value * base + d) most) (record { fits = s.fits; value = s.value * base + d }) (lost_of s)) (lost_of s)
+-- one digit more to the base: none once a digit is none of it, or too large a number, which no later digit mends
+unfoldable pub grow_of : ℕ → Option ℕ → Option ℕ → Option ℕ
+grow_of base v None = None
+grow_of base None (Some d) = None
+grow_of base (Some v) (Some d) = cond (ltb d base) (cond (leb (v * base + d) most) (Some (v * base + d)) None) None
 
 -- ---- a field
 
 -- a field with no byte
 abbrev pub blank_field_of : Field
-blank_field_of = record { size = 0; dec = nought; hex = nought; text = nought }
+blank_field_of = record { size = 0; dec = Some 0; hex = Some 0; text = Some 0 }
 
 -- lengths above 16 are told apart by no test
 abbrev pub lengthened_of : ℕ → ℕ
@@ -33,18 +29,23 @@ lengthened_of n = cond (ltb n 17) (n + 1) n
 
 -- one byte more
 unfoldable pub added_of : Field → ℕ → Field
-added_of f b = record { size = lengthened_of f.size; dec = grow_of 10 f.dec (digit_of b); hex = grow_of 16 f.hex (digit_of b); text = grow_of 256 f.text b }
+added_of f b = record { size = lengthened_of f.size; dec = grow_of 10 f.dec (digit_in b); hex = grow_of 16 f.hex (digit_in b); text = grow_of 256 f.text (Some b) }
+
+-- a number that was read is what the field is
+abbrev pub counted_of : Option ℕ → Reading
+counted_of None = malformed
+counted_of (Some w) = formed w
 
 -- the text of so many bytes that is this number to the base 256
 unfoldable pub spells_of : Field → ℕ → ℕ → Bool
-spells_of f size text = cond (eqb f.size size) (cond f.text.fits (eqb f.text.value text) false) false
+spells_of f size text = eqb f.size size && option_eq eqb f.text (Some text)
 
 -- a field as each of the shapes
 unfoldable pub word_of : Field → Reading
-word_of f = cond (eqb f.size 16) (cond f.hex.fits (formed f.hex.value) malformed) malformed
+word_of f = cond (eqb f.size 16) (counted_of f.hex) malformed
 
 unfoldable pub decimal_of : Field → Reading
-decimal_of f = cond (eqb f.size 0) malformed (cond f.dec.fits (formed f.dec.value) malformed)
+decimal_of f = cond (eqb f.size 0) malformed (counted_of f.dec)
 
 unfoldable pub maybe_of : Field → Reading
 maybe_of f = cond (spells_of f 1 45) absent (decimal_of f)
@@ -58,12 +59,11 @@ letter_of f = cond (spells_of f 1 (kind_letter Value)) (formed (kind_letter Valu
 unfoldable pub job_of : Field → Reading
 job_of f = cond (spells_of f 7 0x73696d706c6578) (formed simplex_mark) (cond (spells_of f 4 0x62666773) (formed bfgs_mark) (cond (spells_of f 5 0x6c62666773) (formed lbfgs_mark) malformed))
 
-unfoldable pub judged_of : ℕ → Field → Reading
-judged_of k f =
-    cond (eqb k word) (word_of f)
-    (cond (eqb k decimal) (decimal_of f)
-    (cond (eqb k maybe) (maybe_of f)
-    (cond (eqb k flag) (flag_of f)
-    (cond (eqb k letter) (letter_of f)
-    (cond (eqb k job) (job_of f)
-    malformed)))))
+abbrev pub judged_of : Shape → Field → Reading
+judged_of Word f = word_of f
+judged_of Decimal f = decimal_of f
+judged_of Maybe f = maybe_of f
+judged_of Flag f = flag_of f
+judged_of Letter f = letter_of f
+judged_of Job f = job_of f
+judged_of Nothing f = malformed

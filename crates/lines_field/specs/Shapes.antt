@@ -1,8 +1,11 @@
 -- What a field may be, over its bytes: one of six shapes. Definitions only.
-use Rattle.std.specs.Prelude.{ℕ, ◌+◌, ◌-◌, ◌*◌, Bool, true, false, ◌&&◌, cond, List, [], ◌∷◌, length, eqb, leb, ltb}
+use Rattle.std.specs.Prelude.{ℕ, ◌+◌, ◌-◌, ◌*◌, Bool, true, false, ◌&&◌, cond, List, [], ◌∷◌, length, eqb, leb, ltb, Option, None, Some, unwrap_or}
 use Rattle.protocol.specs.declared.Kind.TheVariants.{Value, Gradient}
 use Rattle.protocol.specs.Protocol.{letter as kind_letter, simplex_mark, bfgs_mark, lbfgs_mark}
+use Rattle.lines_field.specs.declared.Shape.{Shape}
+use Rattle.lines_field.specs.declared.Shape.TheVariants.{Word, Decimal, Maybe, Flag, Letter, Job, Nothing}
 use Rattle.lines_field.specs.declared.Reading.{Reading}
+use Rattle.lines_field.specs.declared.Reading.TheVariants.{Unfit, Absent, Given}
 
 -- the largest u64
 abbrev pub most : ℕ
@@ -10,9 +13,14 @@ most = 18446744073709551615
 
 -- ---- numbers
 
--- a byte as a digit: `0` to `9`, then `A` to `F`, and 99 for any other
+-- a byte as a digit: `0` to `9`, then `A` to `F`
+unfoldable pub digit_in : ℕ → Option ℕ
+digit_in b = cond (ltb b 48) None (cond (leb b 57) (Some (b - 48)) (cond (ltb b 65) None (cond (leb b 70) (Some (b - 55)) None)))
+
+-- the same as a number, 99 for a byte that is none: no base has that digit
 unfoldable pub digit_of : ℕ → ℕ
-digit_of b = cond (ltb b 48) 99 (cond (leb b 57) (b - 48) (cond (ltb b 65) 99 (cond (leb b 70) (b - 55) 99)))
+unfolding digit_in
+digit_of b = unwrap_or (digit_in b) 99
 
 unfoldable pub digits : List ℕ → List ℕ
 unfolding digit_of
@@ -40,14 +48,30 @@ same (a ∷ xs) (b ∷ bs) = eqb a b && same xs bs
 
 -- none that its place asks for
 abbrev pub malformed : Reading
-malformed = record { ok = false; given = false; word = 0 }
+malformed = Unfit
 
 abbrev pub formed : ℕ → Reading
-formed w = record { ok = true; given = true; word = w }
+formed w = Given w
 
 -- "`-` absent"
 abbrev pub absent : Reading
-absent = record { ok = true; given = false; word = 0 }
+absent = Absent
+
+-- whether a field is what its place asks for
+abbrev pub fits : Reading → Bool
+fits Unfit = false
+fits Absent = true
+fits (Given w) = true
+
+-- its number, where it has one
+abbrev pub given : Reading → Option ℕ
+given Unfit = None
+given Absent = None
+given (Given w) = Some w
+
+-- its number, 0 where it has none
+abbrev pub number_in : Reading → ℕ
+number_in v = unwrap_or (given v) 0
 
 -- "f64 bits are shown as 16 hexadecimal digits": exactly 16 out of 0-9 and A-F
 unfoldable pub word_field : List ℕ → Reading
@@ -77,32 +101,12 @@ job_field f =
     (cond (same f (108 ∷ 98 ∷ 102 ∷ 103 ∷ 115 ∷ [])) (formed lbfgs_mark)
     malformed))
 
--- the shapes, by number
-abbrev pub word : ℕ
-word = 1
-
-abbrev pub decimal : ℕ
-decimal = 2
-
-abbrev pub maybe : ℕ
-maybe = 3
-
-abbrev pub flag : ℕ
-flag = 4
-
-abbrev pub letter : ℕ
-letter = 5
-
-abbrev pub job : ℕ
-job = 6
-
 -- a field read as a shape
-unfoldable pub field_as : ℕ → List ℕ → Reading
-field_as k f =
-    cond (eqb k word) (word_field f)
-    (cond (eqb k decimal) (decimal_field f)
-    (cond (eqb k maybe) (maybe_field f)
-    (cond (eqb k flag) (flag_field f)
-    (cond (eqb k letter) (letter_field f)
-    (cond (eqb k job) (job_field f)
-    malformed)))))
+unfoldable pub field_as : Shape → List ℕ → Reading
+field_as Word f = word_field f
+field_as Decimal f = decimal_field f
+field_as Maybe f = maybe_field f
+field_as Flag f = flag_field f
+field_as Letter f = letter_field f
+field_as Job f = job_field f
+field_as Nothing f = malformed

@@ -1,258 +1,231 @@
 // One field of a line, byte by byte, and what it is when it ends.
 #![tactic(auto)]
 
-ghost use Rattle.std.specs.Prelude.{◌≡◌, ◌<◌};
-ghost use Rattle.lines_field.specs.Shapes.{digit_of, malformed, formed};
-ghost use Rattle.lines_field.specs.Fields.{lost_of, grow_of, blank_field_of, lengthened_of, added_of, spells_of, word_of, decimal_of, maybe_of, flag_of, letter_of, job_of, judged_of};
+ghost use Rattle.std.specs.Prelude.{◌≡◌};
+ghost use Rattle.lines_field.specs.Shapes.{digit_in, fits, given, number_in};
+ghost use Rattle.lines_field.specs.Fields.{grow_of, blank_field_of, lengthened_of, added_of, counted_of, spells_of, word_of, decimal_of, maybe_of, flag_of, letter_of, job_of, judged_of};
 
 use protocol::{BFGS, GRADIENT, LBFGS, SIMPLEX, VALUE};
 
-// A number that is read digit by digit, and whether each was a digit of its base and the number fits.
-#[derive(Clone, Copy)]
-pub struct Sum {
-    pub fits: bool,
-    pub value: u64,
+// What the place of a field asks for; `Nothing` where there is to be none.
+#[derive(Clone, Copy, PartialEq, Eq)]
+pub enum Shape {
+    Word,
+    Decimal,
+    Maybe,
+    Flag,
+    Letter,
+    Job,
+    Nothing,
 }
 
-// A field as far as it has come: its length, 17 for any above 16, and its number to the bases 10, 16
-// and 256. The last is the text itself: up to eight bytes are one number.
-#[derive(Clone, Copy)]
-pub struct Field {
-    pub size: u64,
-    pub dec: Sum,
-    pub hex: Sum,
-    pub text: Sum,
+// A field read as what its place asks for: it is not that, it is `-`, or it has a number.
+#[derive(Clone, Copy, PartialEq, Eq)]
+pub enum Reading {
+    Unfit,
+    Absent,
+    Given(u64),
 }
 
-// A field read as what its place asks for: whether it is that, whether it is no `-`, and its number.
-#[derive(Clone, Copy)]
-pub struct Reading {
-    pub ok: bool,
-    pub given: bool,
-    pub word: u64,
+impl Reading {
+    // Whether the field is what its place asks for.
+    pub fn fits(self) -> bool
+        ensures { result ≡ fits self }
+    {
+        match self {
+            Reading::Unfit => false,
+            Reading::Absent => true,
+            Reading::Given(_) => true,
+        }
+    }
+
+    // Its number, if it has one.
+    pub fn given(self) -> Option<u64>
+        ensures { result ≡ given self }
+    {
+        match self {
+            Reading::Unfit => None,
+            Reading::Absent => None,
+            Reading::Given(word) => Some(word),
+        }
+    }
+
+    // Its number, 0 where it has none.
+    pub fn number(self) -> u64
+        ensures { result ≡ number_in self }
+    {
+        self.given().unwrap_or(0)
+    }
 }
 
-// A byte as a digit, 99 for one that is none.
-fn digit(b: u8) -> u64
-    ensures { result ≡ digit_of b }
+// A byte as a digit.
+#[tactic(auto, unfolding(crate::specs::Shapes::digit_in))]
+fn digit(b: u8) -> Option<u64>
+    ensures { result ≡ digit_in b }
 {
-    if b < b'0' {
-        return 99;
-    }
-    if b <= b'9' {
-        return (b - b'0') as u64;
-    }
-    if b < b'A' {
-        return 99;
-    }
-    if b <= b'F' {
-        return (b - 55) as u64;
-    }
-    99
-}
-
-// A number whose next digit is none of its base, or makes it too large.
-fn lost(s: Sum) -> Sum
-    ensures { result ≡ lost_of s }
-{
-    Sum {
-        fits: false,
-        value: s.value,
+    match b {
+        b'0'..=b'9' => Some((b - b'0') as u64),
+        b'A'..=b'F' => Some((b - 55) as u64),
+        _ => None,
     }
 }
 
-// One digit more to the base.
-fn grow(base: u64, s: Sum, d: u64) -> Sum
-    requires { 0 < base }
-    ensures { result ≡ grow_of base s d }
+// A number with one digit more to the base: none once a digit was none of the base, or the number too large.
+#[tactic(auto, unfolding(crate::specs::Fields::grow_of))]
+fn grow(base: u64, v: Option<u64>, d: Option<u64>) -> Option<u64>
+    ensures { result ≡ grow_of base v d }
 {
-    if d >= base {
-        return lost(s);
+    let d = d?;
+    if base <= d {
+        return None;
     }
-    if s.value > (0xffff_ffff_ffff_ffff - d) / base {
-        return lost(s);
-    }
-    Sum {
-        fits: s.fits,
-        value: s.value * base + d,
-    }
+    v?.checked_mul(base)?.checked_add(d)
 }
 
 fn lengthened(n: u64) -> u64
     ensures { result ≡ lengthened_of n }
 {
-    if n < 17 {
-        return n + 1;
-    }
-    n
+    if n < 17 { n + 1 } else { n }
 }
 
-pub fn blank_field() -> Field
-    ensures { result ≡ blank_field_of }
+// A number that was read is what the field is.
+fn counted(v: Option<u64>) -> Reading
+    ensures { result ≡ counted_of v }
 {
-    let zero = Sum {
-        fits: true,
-        value: 0,
-    };
-    Field {
-        size: 0,
-        dec: zero,
-        hex: zero,
-        text: zero,
+    match v {
+        Some(word) => Reading::Given(word),
+        None => Reading::Unfit,
     }
 }
 
-// One byte more.
-pub fn added(f: Field, b: u8) -> Field
-    ensures { result ≡ added_of f b }
-{
-    let d = digit(b);
-    let dec = grow(10, f.dec, d);
-    let hex = grow(16, f.hex, d);
-    let text = grow(256, f.text, b as u64);
-    let size = lengthened(f.size);
-    Field {
-        size,
-        dec,
-        hex,
-        text,
-    }
+// A field as far as it has come: its length, 17 for any above 16, and its number to the bases 10, 16
+// and 256. The last is the text itself: up to eight bytes are one number, and no text is kept.
+#[derive(Clone, Copy)]
+pub struct Field {
+    pub size: u64,
+    pub dec: Option<u64>,
+    pub hex: Option<u64>,
+    pub text: Option<u64>,
 }
 
-// A field of another form than its place asks for.
-pub fn unfit() -> Reading
-    ensures { result ≡ malformed }
-{
-    Reading {
-        ok: false,
-        given: false,
-        word: 0,
+impl Field {
+    pub fn blank() -> Self
+        ensures { result ≡ blank_field_of }
+    {
+        Field {
+            size: 0,
+            dec: Some(0),
+            hex: Some(0),
+            text: Some(0),
+        }
     }
-}
 
-fn fit(word: u64) -> Reading
-    ensures { result ≡ formed word }
-{
-    Reading {
-        ok: true,
-        given: true,
-        word,
+    // One byte more.
+    #[tactic(auto, unfolding(crate::specs::Fields::added_of))]
+    pub fn added(self, b: u8) -> Self
+        ensures { result ≡ added_of self b }
+    {
+        let d = digit(b);
+        Field {
+            size: lengthened(self.size),
+            dec: grow(10, self.dec, d),
+            hex: grow(16, self.hex, d),
+            text: grow(256, self.text, Some(b as u64)),
+        }
     }
-}
 
-// Whether the field is a text of so many bytes, eight at most, that is this number to the base 256.
-fn spells(f: Field, size: u64, text: u64) -> bool
-    ensures { result ≡ spells_of f size text }
-{
-    if f.size != size {
-        return false;
+    // Whether the field is a text of so many bytes, eight at most, that is this number to the base 256.
+    #[tactic(auto, unfolding(crate::specs::Fields::spells_of))]
+    fn spells(self, size: u64, text: u64) -> bool
+        ensures { result ≡ spells_of self size text }
+    {
+        self.size == size && self.text == Some(text)
     }
-    let t = f.text;
-    if t.fits {
-        return t.value == text;
-    }
-    false
-}
 
-fn word(f: Field) -> Reading
-    ensures { result ≡ word_of f }
-{
-    if f.size != 16 {
-        return unfit();
+    #[tactic(auto, unfolding(crate::specs::Fields::word_of))]
+    fn word(self) -> Reading
+        ensures { result ≡ word_of self }
+    {
+        if self.size == 16 {
+            return counted(self.hex);
+        }
+        Reading::Unfit
     }
-    let h = f.hex;
-    if h.fits {
-        return fit(h.value);
-    }
-    unfit()
-}
 
-fn decimal(f: Field) -> Reading
-    ensures { result ≡ decimal_of f }
-{
-    if f.size == 0 {
-        return unfit();
+    #[tactic(auto, unfolding(crate::specs::Fields::decimal_of))]
+    fn decimal(self) -> Reading
+        ensures { result ≡ decimal_of self }
+    {
+        if self.size == 0 {
+            return Reading::Unfit;
+        }
+        counted(self.dec)
     }
-    let d = f.dec;
-    if d.fits {
-        return fit(d.value);
-    }
-    unfit()
-}
 
-fn maybe(f: Field) -> Reading
-    ensures { result ≡ maybe_of f }
-{
-    if spells(f, 1, 45) {
-        return Reading {
-            ok: true,
-            given: false,
-            word: 0,
-        };
+    #[tactic(auto, unfolding(crate::specs::Fields::maybe_of))]
+    fn maybe(self) -> Reading
+        ensures { result ≡ maybe_of self }
+    {
+        if self.spells(1, b'-' as u64) {
+            return Reading::Absent;
+        }
+        self.decimal()
     }
-    decimal(f)
-}
 
-fn flag(f: Field) -> Reading
-    ensures { result ≡ flag_of f }
-{
-    if spells(f, 1, 48) {
-        return fit(0);
+    #[tactic(auto, unfolding(crate::specs::Fields::flag_of))]
+    fn flag(self) -> Reading
+        ensures { result ≡ flag_of self }
+    {
+        if self.spells(1, b'0' as u64) {
+            return Reading::Given(0);
+        }
+        if self.spells(1, b'1' as u64) {
+            return Reading::Given(1);
+        }
+        Reading::Unfit
     }
-    if spells(f, 1, 49) {
-        return fit(1);
-    }
-    unfit()
-}
 
-fn letter(f: Field) -> Reading
-    ensures { result ≡ letter_of f }
-{
-    if spells(f, 1, VALUE as u64) {
-        return fit(VALUE as u64);
+    #[tactic(auto, unfolding(crate::specs::Fields::letter_of))]
+    fn letter(self) -> Reading
+        ensures { result ≡ letter_of self }
+    {
+        if self.spells(1, VALUE as u64) {
+            return Reading::Given(VALUE as u64);
+        }
+        if self.spells(1, GRADIENT as u64) {
+            return Reading::Given(GRADIENT as u64);
+        }
+        Reading::Unfit
     }
-    if spells(f, 1, GRADIENT as u64) {
-        return fit(GRADIENT as u64);
-    }
-    unfit()
-}
 
-fn job(f: Field) -> Reading
-    ensures { result ≡ job_of f }
-{
-    if spells(f, 7, 0x73_696d_706c_6578) {
-        return fit(SIMPLEX);
+    #[tactic(auto, unfolding(crate::specs::Fields::job_of))]
+    fn job(self) -> Reading
+        ensures { result ≡ job_of self }
+    {
+        if self.spells(7, 0x73_696d_706c_6578) {
+            return Reading::Given(SIMPLEX);
+        }
+        if self.spells(4, 0x6266_6773) {
+            return Reading::Given(BFGS);
+        }
+        if self.spells(5, 0x6c_6266_6773) {
+            return Reading::Given(LBFGS);
+        }
+        Reading::Unfit
     }
-    if spells(f, 4, 0x6266_6773) {
-        return fit(BFGS);
-    }
-    if spells(f, 5, 0x6c_6266_6773) {
-        return fit(LBFGS);
-    }
-    unfit()
-}
 
-// The field read as a shape.
-pub fn judged(shape: u64, f: Field) -> Reading
-    ensures { result ≡ judged_of shape f }
-{
-    if shape == 1 {
-        return word(f);
+    // The field read as a shape.
+    pub fn judged(self, shape: Shape) -> Reading
+        ensures { result ≡ judged_of shape self }
+    {
+        match shape {
+            Shape::Word => self.word(),
+            Shape::Decimal => self.decimal(),
+            Shape::Maybe => self.maybe(),
+            Shape::Flag => self.flag(),
+            Shape::Letter => self.letter(),
+            Shape::Job => self.job(),
+            Shape::Nothing => Reading::Unfit,
+        }
     }
-    if shape == 2 {
-        return decimal(f);
-    }
-    if shape == 3 {
-        return maybe(f);
-    }
-    if shape == 4 {
-        return flag(f);
-    }
-    if shape == 5 {
-        return letter(f);
-    }
-    if shape == 6 {
-        return job(f);
-    }
-    unfit()
 }

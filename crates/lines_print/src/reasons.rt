@@ -1,35 +1,29 @@
 // The words of a result: why a fit ended, and whether it converged.
-ghost use Rattle.std.specs.Prelude.{◌+◌, ◌≤◌, length};
-ghost use Rattle.lines_buffer.specs.Texts.{Written};
+ghost use Rattle.std.specs.Prelude.{◌≤◌, ◌≡◌, length};
 ghost use Rattle.lines_print.specs.Reasons.{reason_text, flag_text};
 
-use lines_buffer::put_text;
 use protocol::Termination;
 
 // The reason as `Termination` spells it.
-pub fn put_reason(out: &mut [u8], at: usize, reason: Termination) -> usize
-    requires { at + 19 ≤ length out.old }
-    ensures { (result ≤ at + 19) × Written out.old at out.new result (reason_text reason) }
+#[tactic(auto, unfolding(crate::specs::Reasons::reason_text))]
+pub fn reason_text(reason: Termination) -> &'static [u8]
+    ensures { (result.now ≡ reason_text reason) × (length result.now ≤ 19) }
 {
     match reason {
-        Termination::GradientTolerance => put_text(out, at, b"GradientTolerance"),
-        Termination::SimplexTolerance => put_text(out, at, b"SimplexTolerance"),
-        Termination::StepTolerance => put_text(out, at, b"StepTolerance"),
-        Termination::FunctionTolerance => put_text(out, at, b"FunctionTolerance"),
-        Termination::MaxIterations => put_text(out, at, b"MaxIterations"),
-        Termination::MaxFevals => put_text(out, at, b"MaxFevals"),
-        Termination::LineSearchFailed => put_text(out, at, b"LineSearchFailed"),
-        Termination::GradientFailed => put_text(out, at, b"GradientFailed"),
-        Termination::ObjectiveResolution => put_text(out, at, b"ObjectiveResolution"),
+        Termination::GradientTolerance => b"GradientTolerance",
+        Termination::SimplexTolerance => b"SimplexTolerance",
+        Termination::StepTolerance => b"StepTolerance",
+        Termination::FunctionTolerance => b"FunctionTolerance",
+        Termination::MaxIterations => b"MaxIterations",
+        Termination::MaxFevals => b"MaxFevals",
+        Termination::LineSearchFailed => b"LineSearchFailed",
+        Termination::GradientFailed => b"GradientFailed",
+        Termination::ObjectiveResolution => b"ObjectiveResolution",
     }
 }
 
-pub fn put_flag(out: &mut [u8], at: usize, b: bool) -> usize
-    requires { at + 3 ≤ length out.old }
-    ensures { (result ≤ at + 3) × Written out.old at out.new result (flag_text b) }
+pub fn flag_text(b: bool) -> &'static [u8]
+    ensures { (result.now ≡ flag_text b) × (length result.now ≤ 3) }
 {
-    if b {
-        return put_text(out, at, b"yes");
-    }
-    put_text(out, at, b"no")
+    if b { b"yes" } else { b"no" }
 }

@@ -1,9 +1,10 @@
 -- What each function of the reader makes, for every struct that it is given. Definitions only.
-use Rattle.std.specs.Prelude.{ℕ, ◌+◌, Bool, true, false, ◌&&◌, not, cond, List, [], ◌∷◌, set, replicate, eqb, ltb}
+use Rattle.std.specs.Prelude.{ℕ, ◌+◌, Bool, true, false, ◌&&◌, ◌||◌, not, cond, List, [], ◌∷◌, set, replicate, min, eqb, ltb}
 use Rattle.lines_field.specs.declared.Field.{Field}
 use Rattle.lines_field.specs.declared.Reading.{Reading}
-use Rattle.lines_field.specs.Shapes.{most, malformed}
+use Rattle.lines_field.specs.Shapes.{most, malformed, fits}
 use Rattle.lines_field.specs.Fields.{blank_field_of, added_of, judged_of}
+use Rattle.lines_reader.specs.declared.Form.{Form}
 use Rattle.lines_reader.specs.declared.LineRead.{LineRead}
 use Rattle.lines_reader.specs.declared.Reader.{Reader}
 use Rattle.lines_reader.specs.Forms.{shape_at_of}
@@ -12,7 +13,7 @@ use Rattle.lines_reader.specs.Forms.{shape_at_of}
 
 -- counts stop at the largest u64
 abbrev pub one_more_of : ℕ → ℕ
-one_more_of n = cond (ltb n most) (n + 1) n
+one_more_of n = min (n + 1) most
 
 -- the first twenty are kept
 unfoldable pub kept_of : List Reading → ℕ → Reading → List Reading
@@ -20,22 +21,22 @@ kept_of vs at v = cond (ltb at 20) (set vs at v) vs
 
 -- whether the field at this place is the only one so far, and empty
 abbrev pub alone_of : ℕ → ℕ → Bool
-alone_of at size = cond (eqb at 0) (eqb size 0) false
+alone_of at size = eqb at 0 && eqb size 0
 
 -- a line with no field
-abbrev pub fresh_line_of : ℕ → LineRead
+abbrev pub fresh_line_of : Form → LineRead
 fresh_line_of form = record { form = form; count = 0; ok = true; empty = false; fields = replicate 20 malformed }
 
 -- a field put to the line
 unfoldable pub taken_of : LineRead → Field → LineRead
 taken_of l f =
     let v = judged_of (shape_at_of l.form l.count) f in
-    record { form = l.form; count = one_more_of l.count; ok = l.ok && v.ok; empty = alone_of l.count f.size; fields = kept_of l.fields l.count v }
+    record { form = l.form; count = one_more_of l.count; ok = l.ok && fits v; empty = alone_of l.count f.size; fields = kept_of l.fields l.count v }
 
 -- ---- the reader
 
 -- at the beginning of a line
-abbrev pub started_of : ℕ → Reader
+abbrev pub started_of : Form → Reader
 started_of form = record { field = blank_field_of; line = fresh_line_of form }
 
 -- one byte more: a space ends a field
@@ -54,4 +55,4 @@ finished_of r = taken_of r.line r.field
 
 -- whether the line has a byte so far
 unfoldable pub begun_of : Reader → Bool
-begun_of r = cond (eqb r.line.count 0) (not (eqb r.field.size 0)) true
+begun_of r = not (eqb r.line.count 0) || not (eqb r.field.size 0)

@@ -3,21 +3,132 @@
 // field's place.
 #![tactic(auto)]
 
-ghost use Rattle.std.specs.Prelude.{◌≡◌, ◌&&◌};
+ghost use Rattle.std.specs.Prelude.{◌≡◌, get_or};
+ghost use Rattle.lines_field.specs.declared.Shape.TheVariants.{Nothing};
 ghost use Rattle.lines_reader.specs.Forms.{shape_at_of};
-ghost use Rattle.lines_reader.specs.Reader.{one_more_of, kept_of, alone_of, fresh_line_of, taken_of, started_of, fed_of, finished_of, begun_of};
+ghost use Rattle.lines_reader.specs.Reader.{kept_of, fresh_line_of, taken_of, started_of, fed_of, finished_of, begun_of};
 
-use lines_field::{Field, Reading};
+use lines_field::{Field, Reading, Shape};
+
+// The forms of lines: line 1, line 2 of simplex and that of bfgs and lbfgs, line 3, an answer; before them that no
+// line is due.
+#[derive(Clone, Copy, PartialEq, Eq)]
+pub enum Form {
+    Stopped,
+    Line1,
+    SimplexLine2,
+    GradientLine2,
+    Line3,
+    Answers,
+}
+
+// The shapes of their fields.
+const LINE1_SHAPES: [Shape; 2] = [Shape::Job, Shape::Decimal];
+
+const SIMPLEX_SHAPES: [Shape; 7] = [
+    Shape::Word,
+    Shape::Word,
+    Shape::Word,
+    Shape::Maybe,
+    Shape::Maybe,
+    Shape::Decimal,
+    Shape::Flag,
+];
+
+const GRADIENT_SHAPES: [Shape; 11] = [
+    Shape::Word,
+    Shape::Word,
+    Shape::Word,
+    Shape::Word,
+    Shape::Word,
+    Shape::Word,
+    Shape::Maybe,
+    Shape::Maybe,
+    Shape::Decimal,
+    Shape::Decimal,
+    Shape::Flag,
+];
+
+// The shape that a table has at place i, `Nothing` past its end.
+fn listed(shapes: &[Shape], i: usize) -> Shape
+    ensures { result ≡ get_or shapes.now i Nothing }
+{
+    if i < shapes.len() {
+        shapes[i]
+    } else {
+        Shape::Nothing
+    }
+}
+
+// The shape that a line's form asks for at place i.
+#[tactic(auto, unfolding(crate::specs::Forms::shape_at_of))]
+fn shape_at(form: Form, i: usize) -> Shape
+    ensures { result ≡ shape_at_of form i }
+{
+    match form {
+        Form::Stopped => Shape::Nothing,
+        Form::Line1 => listed(&LINE1_SHAPES, i),
+        Form::SimplexLine2 => listed(&SIMPLEX_SHAPES, i),
+        Form::GradientLine2 => listed(&GRADIENT_SHAPES, i),
+        Form::Line3 => Shape::Word,
+        Form::Answers => match i {
+            0 => Shape::Decimal,
+            1 => Shape::Letter,
+            _ => Shape::Word,
+        },
+    }
+}
+
+// The first twenty are kept.
+#[tactic(auto, unfolding(crate::specs::Reader::kept_of))]
+fn kept(mut fields: [Reading; 20], at: usize, v: Reading) -> [Reading; 20]
+    ensures { result ≡ kept_of fields at v }
+{
+    if at < 20 {
+        fields[at] = v;
+    }
+    fields
+}
 
 // A line: its form, how many fields it has, whether each is what its place asks for, whether it has
-// no byte, and its first twenty fields.
+// no byte, and its first twenty fields. `ok` stands beside them, since it is the verdict on all fields, those
+// past the twentieth too, and since an empty line 3 is read though its one field is none.
 #[derive(Clone, Copy)]
 pub struct LineRead {
-    pub form: u64,
+    pub form: Form,
     pub count: usize,
     pub ok: bool,
     pub empty: bool,
     pub fields: [Reading; 20],
+}
+
+impl LineRead {
+    fn fresh(form: Form) -> Self
+        ensures { result ≡ fresh_line_of form }
+    {
+        LineRead {
+            form,
+            count: 0,
+            ok: true,
+            empty: false,
+            fields: [Reading::Unfit; 20],
+        }
+    }
+
+    // The line with one field more.
+    #[tactic(auto, unfolding(crate::specs::Reader::taken_of))]
+    fn taken(self, f: Field) -> Self
+        ensures { result ≡ taken_of self f }
+    {
+        let v = f.judged(shape_at(self.form, self.count));
+        LineRead {
+            form: self.form,
+            count: self.count.saturating_add(1),
+            ok: self.ok && v.fits(),
+            empty: self.count == 0 && f.size == 0,
+            fields: kept(self.fields, self.count, v),
+        }
+    }
 }
 
 // A line as far as it has come, but for its last field, and that field.
@@ -27,176 +138,46 @@ pub struct Reader {
     pub line: LineRead,
 }
 
-// The forms of lines: line 1, line 2 of simplex and that of bfgs and lbfgs, line 3, an answer; before them that no
-// line is due.
-pub const STOPPED: u64 = 0;
-
-pub const LINE1: u64 = 1;
-
-pub const SIMPLEX_LINE2: u64 = 2;
-
-pub const GRADIENT_LINE2: u64 = 3;
-
-pub const LINE3: u64 = 4;
-
-pub const ANSWERS: u64 = 5;
-// The shapes of their fields, as `judged` has them.
-const LINE1_SHAPES: [u64; 2] = [6, 2];
-
-const SIMPLEX_SHAPES: [u64; 7] = [1, 1, 1, 3, 3, 2, 4];
-
-const GRADIENT_SHAPES: [u64; 11] = [1, 1, 1, 1, 1, 1, 3, 3, 2, 2, 4];
-
-const ANSWER_SHAPES: [u64; 2] = [2, 5];
-
-// The shape that a line's form asks for at place i, 0 where there is to be no field.
-fn shape_at(form: u64, i: usize) -> u64
-    ensures { result ≡ shape_at_of form i }
-{
-    if form == LINE1 {
-        if i < 2 {
-            return LINE1_SHAPES[i];
+impl Reader {
+    // A reader at the beginning of a line of a form.
+    pub fn started(form: Form) -> Self
+        ensures { result ≡ started_of form }
+    {
+        Reader {
+            field: Field::blank(),
+            line: LineRead::fresh(form),
         }
-        return 0;
     }
-    if form == SIMPLEX_LINE2 {
-        if i < 7 {
-            return SIMPLEX_SHAPES[i];
+
+    // One byte of the line more.
+    #[tactic(auto, unfolding(crate::specs::Reader::fed_of))]
+    pub fn fed(self, b: u8) -> Self
+        ensures { result ≡ fed_of self b }
+    {
+        if b == b' ' {
+            return Reader {
+                field: Field::blank(),
+                line: self.finished(),
+            };
         }
-        return 0;
-    }
-    if form == GRADIENT_LINE2 {
-        if i < 11 {
-            return GRADIENT_SHAPES[i];
+        Reader {
+            field: self.field.added(b),
+            line: self.line,
         }
-        return 0;
     }
-    if form == LINE3 {
-        return 1;
-    }
-    if form == ANSWERS {
-        if i < 2 {
-            return ANSWER_SHAPES[i];
-        }
-        return 1;
-    }
-    0
-}
 
-fn one_more(n: usize) -> usize
-    ensures { result ≡ one_more_of n }
-{
-    if n < 0xffff_ffff_ffff_ffff {
-        return n + 1;
+    // The line that ends here.
+    pub fn finished(self) -> LineRead
+        ensures { result ≡ finished_of self }
+    {
+        self.line.taken(self.field)
     }
-    n
-}
 
-fn kept(fields: [Reading; 20], at: usize, v: Reading) -> [Reading; 20]
-    ensures { result ≡ kept_of fields at v }
-{
-    let mut w = fields;
-    if at < 20 {
-        w[at] = v;
-        return w;
+    // Whether the line has a byte so far.
+    #[tactic(auto, unfolding(crate::specs::Reader::begun_of))]
+    pub fn begun(self) -> bool
+        ensures { result ≡ begun_of self }
+    {
+        self.line.count != 0 || self.field.size != 0
     }
-    w
-}
-
-fn alone(at: usize, size: u64) -> bool
-    ensures { result ≡ alone_of at size }
-{
-    if at == 0 {
-        return size == 0;
-    }
-    false
-}
-
-fn both(a: bool, b: bool) -> bool
-    ensures { result ≡ (a && b) }
-{
-    if a {
-        return b;
-    }
-    false
-}
-
-fn fresh_line(form: u64) -> LineRead
-    ensures { result ≡ fresh_line_of form }
-{
-    let none = lines_field::unfit();
-    LineRead {
-        form,
-        count: 0,
-        ok: true,
-        empty: false,
-        fields: [none; 20],
-    }
-}
-
-// The line with one field more.
-fn taken(l: LineRead, f: Field) -> LineRead
-    ensures { result ≡ taken_of l f }
-{
-    let at = l.count;
-    let shape = shape_at(l.form, at);
-    let v = lines_field::judged(shape, f);
-    let ok = both(l.ok, v.ok);
-    let count = one_more(at);
-    let empty = alone(at, f.size);
-    let old = l.fields;
-    let fields = kept(old, at, v);
-    LineRead {
-        form: l.form,
-        count,
-        ok,
-        empty,
-        fields,
-    }
-}
-
-// A reader at the beginning of a line of a form: 1 is line 1, 2 is line 2 of simplex, 3 that of bfgs
-// and lbfgs, 4 is line 3, 5 an answer.
-pub fn started(form: u64) -> Reader
-    ensures { result ≡ started_of form }
-{
-    let field = lines_field::blank_field();
-    let line = fresh_line(form);
-    Reader { field, line }
-}
-
-// One byte of the line more.
-pub fn fed(r: Reader, b: u8) -> Reader
-    ensures { result ≡ fed_of r b }
-{
-    let f = r.field;
-    let l = r.line;
-    if b == b' ' {
-        let field = lines_field::blank_field();
-        let line = taken(l, f);
-        return Reader { field, line };
-    }
-    let field = lines_field::added(f, b);
-    Reader { field, line: l }
-}
-
-// The line that ends here.
-pub fn finished(r: Reader) -> LineRead
-    ensures { result ≡ finished_of r }
-{
-    let f = r.field;
-    let l = r.line;
-    taken(l, f)
-}
-
-// Whether the line has a byte so far.
-pub fn begun(r: Reader) -> bool
-    ensures { result ≡ begun_of r }
-{
-    let l = r.line;
-    let f = r.field;
-    if l.count == 0 {
-        return f.size != 0;
-    }
-    true
 }

@@ -1,19 +1,21 @@
 -- A field fed byte by byte is read as its definition says, whatever its kind. Assumes nothing.
 use Prim.Native.Nat.{ℕ, suc, ◌+◌, ◌*◌, ◌^◌, ◌≤◌, ◌<◌}
 use mathlib.Core.Path.{◌≡◌, refl, sym, ap, ◌∙◌}
-use mathlib.Core.Bool.{true, false, true≢false}
+use mathlib.Core.Bool.{true, cond, true≢false}
 use mathlib.Core.List.{List, [], ◌∷◌, ◌++◌}
 use native.Mathlib.Omega.{arith}
 use native.Mathlib.Nat.{pow-le-pow_right}
 use lib.ListN.{length}
 use lib.Dec.{eqb, leb, ltb}
 use borrow.Author.Tests.{ltb-true, ltb-false, eqb-true, eqb-false, le-leb, lt-ltb, eq-eqb, ne_eqb}
+use Rattle.std.specs.Prelude.{None, Some}
 use Rattle.float.proofs.Tests.{by}
-use Rattle.lines_field.specs.declared.Sum.{Sum}
+use Rattle.lines_field.specs.declared.Shape.{Shape}
+use Rattle.lines_field.specs.declared.Shape.TheVariants.{Word, Decimal, Maybe, Flag, Letter, Job, Nothing}
 use Rattle.lines_field.specs.declared.Field.{Field}
 use Rattle.lines_field.specs.Shapes.{most, digits, below, spelt, same, word_field, decimal_field, maybe_field, flag_field, letter_field, job_field, field_as}
-use Rattle.lines_field.specs.Fields.{nought, blank_field_of, lengthened_of, added_of, spells_of, word_of, decimal_of, maybe_of, flag_of, letter_of, job_of, judged_of}
-use Rattle.lines_theory.proofs.Sums.{never, sums, fit, sums_fits, sums_value, spelt_lt}
+use Rattle.lines_field.specs.Fields.{blank_field_of, lengthened_of, added_of, spells_of, word_of, decimal_of, maybe_of, flag_of, letter_of, job_of, judged_of}
+use Rattle.lines_theory.proofs.Sums.{never, grow_digit, sums, fit, sums_is, spelt_lt}
 
 -- ---- a field's parts
 
@@ -37,7 +39,7 @@ sized n (b ∷ bs) = sized (lengthened_of n) bs
 parts : (f : Field) (bs : List ℕ) → added_all f bs ≡ record { size = sized f.size bs; dec = sums 10 f.dec (digits bs); hex = sums 16 f.hex (digits bs); text = sums 256 f.text bs }
 unfolding added_all sized sums digits added_of
 parts f [] = refl
-parts f (b ∷ bs) = parts (added_of f b) bs
+parts f (b ∷ bs) = parts (added_of f b) bs ∙ rw (grow_digit 10 f.dec b (omega arith), grow_digit 16 f.hex b (omega arith))
 
 size_small : (n : ℕ) (bs : List ℕ) → n + length bs ≤ 17 → sized n bs ≡ n + length bs
 unfolding sized
@@ -67,14 +69,15 @@ size_is bs k h =
 pub size_law : (bs : List ℕ) (k : ℕ) → k < 17 → eqb (field_of bs).size k ≡ eqb (length bs) k
 size_law bs k h = ap (λ (f : Field). eqb f.size k) (parts blank_field_of bs) ∙ size_is bs k h
 
-dec_is : (bs : List ℕ) → (field_of bs).dec ≡ sums 10 nought (digits bs)
-dec_is bs = ap (λ (f : Field). f.dec) (parts blank_field_of bs)
+-- the numbers that are read
+dec_is : (bs : List ℕ) → (field_of bs).dec ≡ cond (fit 10 0 (digits bs)) (Some (spelt 10 0 (digits bs))) None
+dec_is bs = ap (λ (f : Field). f.dec) (parts blank_field_of bs) ∙ sums_is 10 0 (digits bs) (omega arith) (omega arith)
 
-hex_is : (bs : List ℕ) → (field_of bs).hex ≡ sums 16 nought (digits bs)
-hex_is bs = ap (λ (f : Field). f.hex) (parts blank_field_of bs)
+hex_is : (bs : List ℕ) → (field_of bs).hex ≡ cond (fit 16 0 (digits bs)) (Some (spelt 16 0 (digits bs))) None
+hex_is bs = ap (λ (f : Field). f.hex) (parts blank_field_of bs) ∙ sums_is 16 0 (digits bs) (omega arith) (omega arith)
 
-text_is : (bs : List ℕ) → (field_of bs).text ≡ sums 256 nought bs
-text_is bs = ap (λ (f : Field). f.text) (parts blank_field_of bs)
+text_is : (bs : List ℕ) → (field_of bs).text ≡ cond (fit 256 0 bs) (Some (spelt 256 0 bs)) None
+text_is bs = ap (λ (f : Field). f.text) (parts blank_field_of bs) ∙ sums_is 256 0 bs (omega arith) (omega arith)
 
 length_digits : (bs : List ℕ) → length (digits bs) ≡ length bs
 unfolding digits
@@ -94,27 +97,13 @@ unfolding word_of word_field
 word_law bs =
     by (eqb (length bs) 16)
     (λ l. by (below 16 (digits bs))
-    (λ e.
-    let f : fit 16 0 (digits bs) ≡ true = rw (e, word_fits bs (eqb-true (length bs) 16 l) e) in
-    let fits : (field_of bs).hex.fits ≡ true = ap (λ (s : Sum). s.fits) (hex_is bs) ∙ sums_fits 16 0 (digits bs) (omega arith) (omega arith) ∙ f in
-    let value : (field_of bs).hex.value ≡ spelt 16 0 (digits bs) = ap (λ (s : Sum). s.value) (hex_is bs) ∙ sums_value 16 0 (digits bs) (omega arith) f in
-    rw (size_law bs 16 (omega arith), l, e, fits, value))
-    (λ e.
-    let fits : (field_of bs).hex.fits ≡ false = ap (λ (s : Sum). s.fits) (hex_is bs) ∙ sums_fits 16 0 (digits bs) (omega arith) (omega arith) ∙ rw e in
-    rw (size_law bs 16 (omega arith), l, e, fits)))
+    (λ e. rw (size_law bs 16 (omega arith), l, hex_is bs, e, word_fits bs (eqb-true (length bs) 16 l) e))
+    (λ e. rw (size_law bs 16 (omega arith), l, hex_is bs, e)))
     (λ l. rw (size_law bs 16 (omega arith), l))
 
 decimal_law : (bs : List ℕ) → decimal_of (field_of bs) ≡ decimal_field bs
 unfolding decimal_of decimal_field
-decimal_law bs =
-    by (fit 10 0 (digits bs))
-    (λ f.
-    let fits : (field_of bs).dec.fits ≡ true = ap (λ (s : Sum). s.fits) (dec_is bs) ∙ sums_fits 10 0 (digits bs) (omega arith) (omega arith) ∙ f in
-    let value : (field_of bs).dec.value ≡ spelt 10 0 (digits bs) = ap (λ (s : Sum). s.value) (dec_is bs) ∙ sums_value 10 0 (digits bs) (omega arith) f in
-    rw (size_law bs 0 (omega arith), f, fits, value))
-    (λ f.
-    let fits : (field_of bs).dec.fits ≡ false = ap (λ (s : Sum). s.fits) (dec_is bs) ∙ sums_fits 10 0 (digits bs) (omega arith) (omega arith) ∙ f in
-    rw (size_law bs 0 (omega arith), f, fits))
+decimal_law bs = by (fit 10 0 (digits bs)) (λ f. rw (size_law bs 0 (omega arith), dec_is bs, f)) (λ f. rw (size_law bs 0 (omega arith), dec_is bs, f))
 
 -- ---- texts
 
@@ -175,10 +164,7 @@ spells_law bs lit k t l s h b =
     let len : length bs ≡ k = eqb-true (length bs) k p in
     by (below 256 bs)
     (λ e.
-    let f : fit 256 0 bs ≡ true = rw (e, text_fits bs (omega arith) e) in
-    let fits : (field_of bs).text.fits ≡ true = ap (λ (s : Sum). s.fits) (text_is bs) ∙ sums_fits 256 0 bs (omega arith) (omega arith) ∙ f in
-    let value : (field_of bs).text.value ≡ spelt 256 0 bs = ap (λ (s : Sum). s.value) (text_is bs) ∙ sums_value 256 0 bs (omega arith) f in
-    rw (size_law bs k (omega arith), p, fits, value)
+    rw (size_law bs k (omega arith), p, text_is bs, e, text_fits bs (omega arith) e)
     (by (eqb (spelt 256 0 bs) t)
     (λ q.
     let one : bs ≡ lit = (spelt_one 0 0 bs lit (len ∙ sym l) e b (eqb-true (spelt 256 0 bs) t q ∙ sym s)).rest in
@@ -187,8 +173,7 @@ spells_law bs lit k t l s h b =
     (λ y. absurd (eqb-false (spelt 256 0 bs) t q (ap (λ (x : List ℕ). spelt 256 0 x) (same_eq bs lit y) ∙ s)))
     (λ y. y)))))
     (λ e.
-    let fits : (field_of bs).text.fits ≡ false = ap (λ (s : Sum). s.fits) (text_is bs) ∙ sums_fits 256 0 bs (omega arith) (omega arith) ∙ rw e in
-    rw (size_law bs k (omega arith), p, fits)
+    rw (size_law bs k (omega arith), p, text_is bs, e)
     (sym (by (same bs lit)
     (λ y. never (below 256 lit) b (ap (λ (x : List ℕ). below 256 x) (sym (same_eq bs lit y)) ∙ e))
     (λ y. y)))))
@@ -231,6 +216,12 @@ unfolding job_of job_field
 job_law bs = rw (simplex_law bs, bfgs_law bs, lbfgs_law bs)
 
 -- a field of any kind
-pub judged_law : (k : ℕ) (bs : List ℕ) → judged_of k (field_of bs) ≡ field_as k bs
-unfolding judged_of field_as
-judged_law k bs = rw (word_law bs, decimal_law bs, maybe_law bs, flag_law bs, letter_law bs, job_law bs)
+pub judged_law : (k : Shape) (bs : List ℕ) → judged_of k (field_of bs) ≡ field_as k bs
+unfolding field_as
+judged_law Word bs = word_law bs
+judged_law Decimal bs = decimal_law bs
+judged_law Maybe bs = maybe_law bs
+judged_law Flag bs = flag_law bs
+judged_law Letter bs = letter_law bs
+judged_law Job bs = job_law bs
+judged_law Nothing bs = refl

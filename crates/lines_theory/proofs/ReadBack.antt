@@ -3,7 +3,7 @@ use Prim.Native.Nat.{ℕ, zero, suc, ◌+◌, ◌*◌, ◌/◌, ◌%◌, ◌^◌
 use mathlib.Core.Path.{◌≡◌, refl, sym, ap, ap₂, ◌∙◌}
 use mathlib.Core.Bool.{Bool, true, false, cond, true≢false}
 use mathlib.Core.List.{List, [], ◌∷◌, ◌++◌, map, append_assoc, append-nil}
-use mathlib.Core.Option.{some}
+use Rattle.std.specs.Prelude.{Some}
 use native.Mathlib.Omega.{arith}
 use native.Mathlib.Numerals.{add-one}
 use native.Mathlib.Nat.{div-add-mod', mod-lt, div-lt_iff_lt-mul, pow-zero, pow-suc}
@@ -20,6 +20,7 @@ use Rattle.protocol.specs.declared.Termination.{Termination}
 use Rattle.protocol.specs.declared.Termination.TheVariants.{GradientTolerance, SimplexTolerance, StepTolerance, FunctionTolerance, MaxIterations, MaxFevals, LineSearchFailed, GradientFailed, ObjectiveResolution}
 use Rattle.protocol.specs.Protocol.{letter, Question, Answer, Result}
 use Rattle.lines_field.specs.Shapes.{most, digit_of, digits, below, spelt, same, formed, word_field, decimal_field, letter_field, field_as}
+use Rattle.lines_reader.specs.declared.Form.TheVariants.{Answers}
 use Rattle.lines_reader.specs.Forms.{shape_at_of, fields_from, fields, readings_from, readings, all_ok}
 use Rattle.lines_forms.specs.Lines.{value_in, answer_line}
 use Rattle.lines_theory.proofs.Pieces.{same_self}
@@ -27,7 +28,7 @@ use Rattle.lines_buffer.specs.Texts.{glyph_of, numeral, places_from, places_of, 
 use Rattle.lines_print.specs.Reasons.{reason_text, flag_text}
 use Rattle.lines_print.specs.Print.{answer_text, ask_text, end_before, end_text}
 use Rattle.lines_theory.specs.ReadBack.{reason_among, reason_field, yes_field, result_in, end_fields, end_line, AllF64, Printable, echo_of, ReadBackLaws}
-use Rattle.lines_buffer.proofs.Writes.{length_numeral}
+use Rattle.lines_buffer.proofs.Digits.{length_numeral}
 
 never_true : false ≡ true → ⊥
 never_true e = true≢false (sym e)
@@ -165,29 +166,25 @@ value_back x h =
 value_is : (x : Float) → F64 x → value_in (word_field (value_text x)) ≡ x
 value_is x h = ap value_in (value_back x h) ∙ of_bits-to_bits binary64 x h
 
-unfoldable value_fields : List Float → List (List ℕ)
-value_fields [] = []
-value_fields (x ∷ xs) = value_text x ∷ value_fields xs
-
-values_split : (f : List ℕ) (xs : List Float) → fields_from f (values_text xs) ≡ f ∷ value_fields xs
-unfolding fields_from values_text value_fields
+values_split : (f : List ℕ) (xs : List Float) → fields_from f (values_text xs) ≡ f ∷ map value_text xs
+unfolding fields_from values_text
 values_split f [] = refl
 values_split f (x ∷ xs) = ap (λ (l : List (List ℕ)). f ∷ l) (fields_on [] (value_text x) (values_text xs) (value_clean x) ∙ values_split (value_text x) xs)
 
 -- the values are words, and are read as they were
-values_ok : (xs : List Float) → AllF64 xs → all_ok (map word_field (value_fields xs)) ≡ true
-unfolding AllF64 value_fields all_ok
+values_ok : (xs : List Float) → AllF64 xs → all_ok (map word_field (map value_text xs)) ≡ true
+unfolding AllF64 all_ok
 values_ok [] h = refl
 values_ok (x ∷ xs) h = rw (value_back x h.0) (values_ok xs h.1)
 
-values_are : (xs : List Float) → AllF64 xs → map value_in (map word_field (value_fields xs)) ≡ xs
-unfolding AllF64 value_fields
+values_are : (xs : List Float) → AllF64 xs → map value_in (map word_field (map value_text xs)) ≡ xs
+unfolding AllF64
 values_are [] h = refl
 values_are (x ∷ xs) h = ap₂ (λ (y : Float) (ys : List Float). y ∷ ys) (value_is x h.0) (values_are xs h.1)
 
 -- ---- answers
 
-words_read : (i : ℕ) (fs : List (List ℕ)) → 2 ≤ i → readings_from 5 i fs ≡ map word_field fs
+words_read : (i : ℕ) (fs : List (List ℕ)) → 2 ≤ i → readings_from Answers i fs ≡ map word_field fs
 unfolding readings_from field_as shape_at_of
 words_read i [] h = refl
 words_read i (f ∷ fs) h = rw (le-ltb i 2 h, words_read (suc i) fs (omega arith))
@@ -201,26 +198,26 @@ letter_clean : (k : Kind) → eqb (letter k) 32 ≡ false
 letter_clean Value = refl
 letter_clean Gradient = refl
 
-answer_fields : (number : ℕ) (k : Kind) (xs : List Float) → fields (decimal_text number ++ (32 ∷ letter k ∷ values_text xs)) ≡ decimal_text number ∷ (letter k ∷ []) ∷ value_fields xs
+answer_fields : (number : ℕ) (k : Kind) (xs : List Float) → fields (decimal_text number ++ (32 ∷ letter k ∷ values_text xs)) ≡ decimal_text number ∷ (letter k ∷ []) ∷ map value_text xs
 unfolding fields_from
 answer_fields number k xs =
     fields_on [] (decimal_text number) (32 ∷ letter k ∷ values_text xs) (decimal_clean number)
     ∙ ap (λ (l : List (List ℕ)). decimal_text number ∷ l) (rw (letter_clean k) (values_split (letter k ∷ []) xs))
 
 answer_readings : (number : ℕ) (k : Kind) (xs : List Float) → number ≤ most
-    → readings 5 (decimal_text number ++ (32 ∷ letter k ∷ values_text xs)) ≡ formed number ∷ formed (letter k) ∷ map word_field (value_fields xs)
+    → readings Answers (decimal_text number ++ (32 ∷ letter k ∷ values_text xs)) ≡ formed number ∷ formed (letter k) ∷ map word_field (map value_text xs)
 unfolding readings_from field_as shape_at_of
 answer_readings number k xs h =
-    ap (λ (fs : List (List ℕ)). readings_from 5 0 fs) (answer_fields number k xs)
-    ∙ rw (decimal_back number h, letter_back k, words_read 2 (value_fields xs) (omega arith))
+    ap (λ (fs : List (List ℕ)). readings_from Answers 0 fs) (answer_fields number k xs)
+    ∙ rw (decimal_back number h, letter_back k, words_read 2 (map value_text xs) (omega arith))
 
 answer_kind : (number : ℕ) (k : Kind) (xs : List Float) → number ≤ most → AllF64 xs
-    → answer_line (decimal_text number ++ (32 ∷ letter k ∷ values_text xs)) ≡ some (record { number = number; kind = letter k; words = xs })
+    → answer_line (decimal_text number ++ (32 ∷ letter k ∷ values_text xs)) ≡ Some (record { number = number; kind = letter k; words = xs })
 unfolding answer_line all_ok
 answer_kind number k xs h a =
-    rw (answer_readings number k xs h, lt-ltb 1 (suc (suc (length (map word_field (value_fields xs))))) (omega arith), values_ok xs a, values_are xs a)
+    rw (answer_readings number k xs h, lt-ltb 1 (suc (suc (length (map word_field (map value_text xs))))) (omega arith), values_ok xs a, values_are xs a)
 
-answer_back : (a : Answer) (k : Kind) → a.kind ≡ letter k → a.number ≤ most → AllF64 a.words → answer_line (answer_text a) ≡ some a
+answer_back : (a : Answer) (k : Kind) → a.kind ≡ letter k → a.number ≤ most → AllF64 a.words → answer_line (answer_text a) ≡ Some a
 unfolding answer_text
 answer_back a k e h w = rw e (answer_kind a.number k a.words h w)
 
@@ -251,7 +248,7 @@ reason_clean LineSearchFailed = refl
 reason_clean GradientFailed = refl
 reason_clean ObjectiveResolution = refl
 
-reason_back : (r : Termination) → reason_field (reason_text r) ≡ some r
+reason_back : (r : Termination) → reason_field (reason_text r) ≡ Some r
 unfolding reason_among reason_text same
 reason_back GradientTolerance = refl
 reason_back SimplexTolerance = refl
@@ -263,13 +260,13 @@ reason_back LineSearchFailed = refl
 reason_back GradientFailed = refl
 reason_back ObjectiveResolution = refl
 
-flag_back : (b : Bool) → yes_field (flag_text b) ≡ some b
+flag_back : (b : Bool) → yes_field (flag_text b) ≡ Some b
 unfolding yes_field same
 flag_back true = refl
 flag_back false = refl
 
 end_split : (r : Result)
-    → fields (end_before r []) ≡ (101 ∷ 110 ∷ 100 ∷ []) ∷ reason_text r.reason ∷ flag_text r.converged ∷ decimal_text r.iterations ∷ decimal_text r.fevals ∷ decimal_text r.gevals ∷ value_text r.f ∷ value_fields r.x
+    → fields (end_before r []) ≡ (101 ∷ 110 ∷ 100 ∷ []) ∷ reason_text r.reason ∷ flag_text r.converged ∷ decimal_text r.iterations ∷ decimal_text r.fevals ∷ decimal_text r.gevals ∷ value_text r.f ∷ map value_text r.x
 unfolding fields_from end_before
 end_split r =
     let x = values_text r.x ++ [] in
@@ -292,7 +289,7 @@ end_split r =
     ∙ ap (λ (l : List (List ℕ)). decimal_text r.gevals ∷ l)
     (ap (λ (l : List ℕ). fields_from (value_text r.f) l) (append-nil (values_text r.x)) ∙ values_split (value_text r.f) r.x))))))
 
-end_back : (r : Result) → Printable r → end_line (end_before r []) ≡ some r
+end_back : (r : Result) → Printable r → end_line (end_before r []) ≡ Some r
 unfolding end_fields result_in
 end_back r p =
     ap end_fields (end_split r)

@@ -1,50 +1,41 @@
 -- What digits fed one by one add up to. Assumes nothing.
 use Prim.Native.Nat.{ℕ, ◌+◌, ◌*◌, ◌^◌, ◌≤◌, ◌<◌}
-use mathlib.Core.Path.{◌≡◌, refl, sym, ap, ◌∙◌}
+use mathlib.Core.Path.{◌≡◌, refl, sym, ◌∙◌}
 use mathlib.Core.Bool.{Bool, true, false, ◌&&◌, cond, true≢false}
 use mathlib.Core.List.{List, [], ◌∷◌}
 use native.Mathlib.Omega.{arith}
 use native.Mathlib.Nat.{mul-le-mul_left, mul-le-mul_right, pow-zero, pow-succ', mul_assoc}
 use lib.ListN.{length}
 use lib.Dec.{leb, ltb}
-use borrow.Author.Tests.{ltb-true, leb-false, leb-true, le-leb, lt-leb}
+use borrow.Author.Tests.{ltb-true, leb-false, leb-true, le-ltb, le-leb, lt-leb}
+use Rattle.std.specs.Prelude.{Option, None, Some, unwrap_or}
 use Rattle.float.proofs.Tests.{by, and_false}
-use Rattle.lines_field.specs.declared.Sum.{Sum}
-use Rattle.lines_field.specs.Shapes.{most, below, spelt}
-use Rattle.lines_field.specs.Fields.{lost_of, grow_of}
+use Rattle.lines_field.specs.Shapes.{most, digit_in, digit_of, below, spelt}
+use Rattle.lines_field.specs.Fields.{grow_of}
 
 pub never : {P : Type 0} (b : Bool) → b ≡ true → b ≡ false → P
 never b t f = absurd (true≢false (sym t ∙ f))
 
--- the digits ds fed to s
-unfoldable pub sums : ℕ → Sum → List ℕ → Sum
-sums base s [] = s
-sums base s (d ∷ ds) = sums base (grow_of base s d) ds
+grow_plain : (base : ℕ) (v d : Option ℕ) → base ≤ 99 → grow_of base v d ≡ grow_of base v (Some (unwrap_or d 99))
+unfolding grow_of
+grow_plain base v (Some d) h = refl
+grow_plain base None None h = refl
+grow_plain base (Some v) None h = rw (le-ltb 99 base h)
 
-abbrev of : ℕ → Sum
-of v = record { fits = true; value = v }
+-- a byte that is no digit makes what the digit 99 makes
+pub grow_digit : (base : ℕ) (v : Option ℕ) (b : ℕ) → base ≤ 99 → grow_of base v (digit_in b) ≡ grow_of base v (Some (digit_of b))
+unfolding digit_of
+grow_digit base v b h = grow_plain base v (digit_in b) h
 
-lost_fits : (p q : Bool) (s : Sum) (n : ℕ) → s.fits ≡ false → (cond p (cond q (record { fits = s.fits; value = n }) (lost_of s)) (lost_of s)).fits ≡ false
-lost_fits true true s n e = e
-lost_fits true false s n e = refl
-lost_fits false q s n e = refl
+-- the digits ds fed to v
+unfoldable pub sums : ℕ → Option ℕ → List ℕ → Option ℕ
+sums base v [] = v
+sums base v (d ∷ ds) = sums base (grow_of base v (Some d)) ds
 
-pub sums_lost : (base : ℕ) (s : Sum) (ds : List ℕ) → s.fits ≡ false → (sums base s ds).fits ≡ false
+sums_none : (base : ℕ) (ds : List ℕ) → sums base None ds ≡ None
 unfolding sums grow_of
-sums_lost base s [] e = e
-sums_lost base s (d ∷ ds) e = sums_lost base (grow_of base s d) ds (lost_fits (ltb d base) (leb (s.value * base + d) most) s (s.value * base + d) e)
-
-grow_yes : (base v d : ℕ) → ltb d base ≡ true → leb (v * base + d) most ≡ true → grow_of base (of v) d ≡ of (v * base + d)
-unfolding grow_of
-grow_yes base v d e f = rw (e, f)
-
-grow_off : (base v d : ℕ) → ltb d base ≡ false → grow_of base (of v) d ≡ lost_of (of v)
-unfolding grow_of
-grow_off base v d e = rw e
-
-grow_over : (base v d : ℕ) → ltb d base ≡ true → leb (v * base + d) most ≡ false → grow_of base (of v) d ≡ lost_of (of v)
-unfolding grow_of
-grow_over base v d e f = rw (e, f)
+sums_none base [] = refl
+sums_none base (d ∷ ds) = sums_none base ds
 
 grown : (base v d : ℕ) → 0 < base → v ≤ v * base + d
 grown base v d h = let m : v * 1 ≤ v * base = mul-le-mul_left v h in omega arith
@@ -58,29 +49,17 @@ spelt_ge base v (d ∷ ds) h = omega (arith, spelt_ge base (v * base + d) ds h, 
 abbrev pub fit : ℕ → ℕ → List ℕ → Bool
 fit base v ds = below base ds && leb (spelt base v ds) most
 
-pub sums_fits : (base v : ℕ) (ds : List ℕ) → 0 < base → v ≤ most → (sums base (of v) ds).fits ≡ fit base v ds
-unfolding sums spelt below
-sums_fits base v [] h l = sym (le-leb v most l)
-sums_fits base v (d ∷ ds) h l =
+pub sums_is : (base v : ℕ) (ds : List ℕ) → 0 < base → v ≤ most → sums base (Some v) ds ≡ cond (fit base v ds) (Some (spelt base v ds)) None
+unfolding sums spelt below grow_of
+sums_is base v [] h l = rw (le-leb v most l)
+sums_is base v (d ∷ ds) h l =
     by (ltb d base)
     (λ p. by (leb (v * base + d) most)
-    (λ q. ap (λ (s : Sum). (sums base s ds).fits) (grow_yes base v d p q) ∙ rw p (sums_fits base (v * base + d) ds h (leb-true (v * base + d) most q)))
+    (λ q. rw (p, q) (sums_is base (v * base + d) ds h (leb-true (v * base + d) most q)))
     (λ q.
     let big : most < spelt base (v * base + d) ds = omega (arith, leb-false (v * base + d) most q, spelt_ge base (v * base + d) ds h) in
-    ap (λ (s : Sum). (sums base s ds).fits) (grow_over base v d p q) ∙ sums_lost base (lost_of (of v)) ds refl ∙ rw (p, lt-leb (spelt base (v * base + d) ds) most big) (sym (and_false (below base ds)))))
-    (λ p. ap (λ (s : Sum). (sums base s ds).fits) (grow_off base v d p) ∙ sums_lost base (lost_of (of v)) ds refl ∙ rw p)
-
-pub sums_value : (base v : ℕ) (ds : List ℕ) → 0 < base → fit base v ds ≡ true → (sums base (of v) ds).value ≡ spelt base v ds
-unfolding sums spelt below
-sums_value base v [] h e = refl
-sums_value base v (d ∷ ds) h e =
-    by (ltb d base)
-    (λ p. by (leb (v * base + d) most)
-    (λ q. ap (λ (s : Sum). (sums base s ds).value) (grow_yes base v d p q) ∙ sums_value base (v * base + d) ds h (rw p at e))
-    (λ q.
-    let big : most < spelt base (v * base + d) ds = omega (arith, leb-false (v * base + d) most q, spelt_ge base (v * base + d) ds h) in
-    absurd (true≢false (sym e ∙ rw (lt-leb (spelt base (v * base + d) ds) most big) (and_false (ltb d base && below base ds))))))
-    (λ p. absurd (true≢false (sym (rw p at e))))
+    rw (p, q, lt-leb (spelt base (v * base + d) ds) most big, and_false (below base ds)) (sums_none base ds)))
+    (λ p. rw p (sums_none base ds))
 
 -- digits of a base, so many, spell a number below that power of it
 pub spelt_lt : (base v : ℕ) (ds : List ℕ) → below base ds ≡ true → spelt base v ds < (v + 1) * base ^ length ds

@@ -1,7 +1,6 @@
 -- What each answer does to the record of the search: it takes what is told for the open question, and gives the record with the next question or the outcome. What the crates
 -- below define is passed on. Definitions only.
-use Rattle.std.specs.Prelude.{false, not, cond, List, ltb, eqb, replicate, Float}
-use Rattle.float.specs.Binary64.{plus_zero}
+use Rattle.std.specs.Prelude.{not, cond, List, ltb, eqb, Float}
 use Rattle.float.specs.Values.{finite_of, min_of}
 use Rattle.objective.specs.declared.Differences.{Differences}
 use Rattle.objective.specs.Step as objective
@@ -10,7 +9,7 @@ use Rattle.linesearch_trials.specs.declared.Fixed.{Fixed}
 use Rattle.linesearch_moves.specs.declared.Search.{Search}
 pub use Rattle.linesearch_trials.specs.Evaluations.{trial_of}
 unfoldable pub use Rattle.linesearch_trials.specs.Evaluations.{point_at_of, nans_of, evaluated_of, infeasible_of}
-pub use Rattle.linesearch_moves.specs.Searches.{asks_value, asks_gradient, asks_difference, found, failed, with_best, with_ends, with_diff, with_value, at_start}
+pub use Rattle.linesearch_moves.specs.Searches.{asks_value, asks_gradient, asks_difference, found, failed, zeros, no_trial, with_best, with_ends, with_diff, with_value, at_start}
 unfoldable pub use Rattle.linesearch_moves.specs.Searches.{preceding_of, risen_of, lower_of, keep_of, failure_of, success_of, eval_of, zoom_of, bracket_of}
 unfoldable pub use Rattle.linesearch_moves.specs.Bracketing.{bracketed_of, zoomed_of, decided_of}
 
@@ -28,27 +27,6 @@ unfoldable pub valued_of : Fixed → Line → Search → Float → Search
 valued_of fixed l s v = cond (finite_of v) (eval_gradient_of fixed l (with_value s v)) (decided_of fixed l (with_value s v) (infeasible_of fixed l s.step v))
 
 -- ---- the whole
-
-abbrev pub zeros : List Float
-zeros = replicate 16 plus_zero
-
--- before the first trial
-abbrev pub no_trial : Search
-no_trial =
-    let none = trial_of plus_zero plus_zero plus_zero in
-    record {
-      phase = asks_value;
-      zooming = false;
-      trials = 0;
-      previous = false;
-      lo = none;
-      hi = none;
-      step = plus_zero;
-      value = plus_zero;
-      kept = false;
-      best = record { trial = none; x = zeros; g = zeros };
-      diff = objective.begun_of zeros;
-    }
 
 -- "the step starts at min(initial_step, step_max)"
 unfoldable pub begun_of : Fixed → Line → Float → Search

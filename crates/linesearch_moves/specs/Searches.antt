@@ -1,13 +1,16 @@
 -- The record of a search, and its moves to the next trial or the end. Definitions only.
-use Rattle.std.specs.Prelude.{ℕ, ◌+◌, Bool, true, false, not, cond, leb, Float}
+use Rattle.std.specs.Prelude.{ℕ, ◌+◌, Bool, true, false, not, cond, List, leb, replicate, Float}
 use Rattle.std.specs.Float.Ieee.{lt, le}
+use Rattle.float.specs.Binary64.{plus_zero}
 use Rattle.float.specs.Values.{finite_of}
 use Rattle.objective.specs.declared.Differences.{Differences}
+use Rattle.objective.specs.Step as objective
 use Rattle.linesearch_trials.specs.declared.Trial.{Trial}
 use Rattle.linesearch_trials.specs.declared.Evaluation.{Evaluation}
 use Rattle.linesearch_trials.specs.declared.Line.{Line}
 use Rattle.linesearch_trials.specs.declared.Fixed.{Fixed}
 use Rattle.linesearch_trials.specs.Cubic.{interpolate_of}
+use Rattle.linesearch_trials.specs.Evaluations.{trial_of}
 use Rattle.linesearch_trials.specs.Trials.{start_of, narrow_of}
 use Rattle.linesearch_moves.specs.declared.Search.{Search}
 
@@ -48,6 +51,29 @@ module _ (s : Search) where
   abbrev pub with_value : Float → Search
   with_value v =
       record { phase = s.phase; zooming = s.zooming; trials = s.trials; previous = s.previous; lo = s.lo; hi = s.hi; step = s.step; value = v; kept = s.kept; best = s.best; diff = s.diff }
+
+-- ---- the first record
+
+abbrev pub zeros : List Float
+zeros = replicate 16 plus_zero
+
+-- before the first trial
+abbrev pub no_trial : Search
+no_trial =
+    let none = trial_of plus_zero plus_zero plus_zero in
+    record {
+      phase = asks_value;
+      zooming = false;
+      trials = 0;
+      previous = false;
+      lo = none;
+      hi = none;
+      step = plus_zero;
+      value = plus_zero;
+      kept = false;
+      best = record { trial = none; x = zeros; g = zeros };
+      diff = objective.begun_of zeros;
+    }
 
 -- ---- moves
 

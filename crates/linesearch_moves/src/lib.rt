@@ -5,13 +5,13 @@
 mod bracketing;
 
 ghost use Rattle.std.specs.Prelude.{◌≡◌, ◌<◌};
-ghost use Rattle.linesearch_moves.specs.Searches.{preceding_of, risen_of, lower_of, keep_of, failure_of, success_of, eval_of, zoom_of, bracket_of};
+ghost use Rattle.linesearch_moves.specs.Searches.{preceding_of, risen_of, lower_of, keep_of, failure_of, success_of, eval_of, zoom_of, bracket_of, no_trial};
 
-pub use bracketing::decided;
-use linesearch_trials::{Evaluation, Fixed, Line, Trial};
+use linesearch_trials::{Evaluation, Line, Setup, Trial};
 use objective::Differences;
 
-// The phases of a search. What is asked for: the trial's value, its gradient, or a value for its differences.
+// The phases of a search: numbers and no enum, since the record crosses to C as plain numbers, of which any may
+// come. What is asked for: the trial's value, its gradient, or a value for its differences.
 pub const ASKS_VALUE: u64 = 1;
 
 pub const ASKS_GRADIENT: u64 = 2;
@@ -25,7 +25,8 @@ pub const FAILED: u64 = 5;
 // The search as far as it has come: what is asked for; whether it zooms, between `lo` and `hi`, or
 // doubles, with `lo` as the trial before where `previous` says that there is one; trials made, with the
 // one in hand, of which the step and then the value; the best trial where `kept` says that there is one,
-// at the end the outcome; and the differences. What has not been in use is zero.
+// at the end the outcome; and the differences. What has not been in use is zero. The flags stand beside
+// what they speak of, and are no Option, for C too.
 #[derive(Clone, Copy)]
 pub struct Search {
     pub phase: u64,
@@ -41,120 +42,123 @@ pub struct Search {
     pub diff: Differences,
 }
 
-// The trial before the one in hand, or the start of the line.
-pub fn preceding(l: Line, s: Search) -> Trial
-    ensures { result ≡ preceding_of l s }
-{
-    let lo = s.lo;
-    if s.previous {
-        return lo;
+impl Search {
+    // Before the first trial.
+    pub fn no_trial() -> Search
+        ensures { result ≡ no_trial }
+    {
+        Search {
+            phase: ASKS_VALUE,
+            zooming: false,
+            trials: 0,
+            previous: false,
+            lo: Trial::default(),
+            hi: Trial::default(),
+            step: 0.0,
+            value: 0.0,
+            kept: false,
+            best: Evaluation::default(),
+            diff: Differences::begun([0.0; 16]),
+        }
     }
-    linesearch_trials::start(l)
-}
 
-// Whether there is a trial before, and its value is not above.
-pub fn risen(s: Search, t: Trial) -> bool
-    ensures { result ≡ risen_of s t }
-{
-    let lo = s.lo;
-    if !s.previous {
-        return false;
+    // The trial before the one in hand, or the start of the line.
+    #[tactic(auto, unfolding(crate::specs::Searches::preceding_of))]
+    pub fn preceding(&self, line: &Line) -> Trial
+        ensures { result ≡ preceding_of line.now self.now }
+    {
+        if self.previous { self.lo } else { line.start() }
     }
-    t.value >= lo.value
-}
 
-// Whether the best gives way.
-fn lower(s: Search, t: Evaluation) -> bool
-    ensures { result ≡ lower_of s t }
-{
-    if !s.kept {
-        return true;
+    // Whether there is a trial before, and its value is not above.
+    #[tactic(auto, unfolding(crate::specs::Searches::risen_of))]
+    pub fn risen(&self, t: Trial) -> bool
+        ensures { result ≡ risen_of self.now t }
+    {
+        self.previous && t.value >= self.lo.value
     }
-    t.trial.value < s.best.trial.value
-}
 
-// The best finite trial, the first on ties.
-pub fn keep(s: Search, t: Evaluation) -> Search
-    ensures { result ≡ keep_of s t }
-{
-    if !float::is_finite(t.trial.value) {
-        return s;
+    // Whether the best gives way.
+    #[tactic(auto, unfolding(crate::specs::Searches::lower_of))]
+    fn lower(&self, t: &Evaluation) -> bool
+        ensures { result ≡ lower_of self.now t.now }
+    {
+        !self.kept || t.trial.value < self.best.trial.value
     }
-    if lower(s, t) {
-        let mut q = s;
-        q.kept = true;
-        q.best = t;
-        return q;
-    }
-    s
-}
 
-// The best trial below the start, or else the start.
-pub fn failure(l: Line, s: Search) -> Search
-    ensures { result ≡ failure_of l s }
-{
-    let x = l.x;
-    let g = l.g;
-    let trial = linesearch_trials::start(l);
-    let start = Evaluation { trial, x, g };
-    let mut q = s;
-    q.phase = FAILED;
-    if !s.kept {
-        q.best = start;
-        return q;
+    // The best finite trial, the first on ties.
+    #[tactic(auto, unfolding(crate::specs::Searches::keep_of))]
+    pub fn keep(mut self, t: Evaluation) -> Search
+        ensures { result ≡ keep_of self t }
+    {
+        if float::is_finite(t.trial.value) && self.lower(&t) {
+            self.kept = true;
+            self.best = t;
+        }
+        self
     }
-    if s.best.trial.value < l.f {
-        return q;
-    }
-    q.best = start;
-    q
-}
 
-// Both conditions are met at t.
-pub fn success(s: Search, t: Evaluation) -> Search
-    ensures { result ≡ success_of s t }
-{
-    let mut q = s;
-    q.phase = FOUND;
-    q.best = t;
-    q
-}
-
-// The next trial, at the step a: its value is asked for.
-fn eval(s: Search, a: f64) -> Search
-    requires { s.trials < 18446744073709551615 }
-    ensures { result ≡ eval_of s a }
-{
-    let mut q = s;
-    q.phase = ASKS_VALUE;
-    q.trials = s.trials + 1;
-    q.step = a;
-    q
-}
-
-// The next trial between lo and hi.
-pub fn zoom(fixed: Fixed, l: Line, s: Search, lo: Trial, hi: Trial) -> Search
-    ensures { result ≡ zoom_of fixed l s lo hi }
-{
-    let mut q = s;
-    q.zooming = true;
-    q.lo = lo;
-    q.hi = hi;
-    if fixed.options.evals <= s.trials {
-        return failure(l, q);
+    // The best trial below the start, or else the start.
+    #[tactic(auto, unfolding(crate::specs::Searches::failure_of))]
+    pub fn failure(mut self, line: &Line) -> Search
+        ensures { result ≡ failure_of line.now self }
+    {
+        self.phase = FAILED;
+        if self.kept && self.best.trial.value < line.f {
+            return self;
+        }
+        self.best = Evaluation {
+            trial: line.start(),
+            x: line.x,
+            g: line.g,
+        };
+        self
     }
-    if linesearch_trials::narrow(lo, hi) {
-        return failure(l, q);
-    }
-    eval(q, linesearch_trials::interpolate(lo, hi))
-}
 
-// The next trial in doubling.
-pub fn bracket(fixed: Fixed, l: Line, s: Search, a: f64) -> Search
-    ensures { result ≡ bracket_of fixed l s a }
-{
-    if fixed.options.evals <= s.trials {
-        return failure(l, s);
+    // Both conditions are met at t.
+    #[tactic(auto, unfolding(crate::specs::Searches::success_of))]
+    pub fn success(mut self, t: Evaluation) -> Search
+        ensures { result ≡ success_of self t }
+    {
+        self.phase = FOUND;
+        self.best = t;
+        self
     }
-    eval(s, a)
+
+    // The next trial, at the step a: its value is asked for.
+    #[tactic(auto, unfolding(crate::specs::Searches::eval_of))]
+    fn eval(mut self, a: f64) -> Search
+        requires { self.trials < 18446744073709551615 }
+        ensures { result ≡ eval_of self a }
+    {
+        self.phase = ASKS_VALUE;
+        self.trials += 1;
+        self.step = a;
+        self
+    }
+
+    // The next trial between lo and hi.
+    #[tactic(auto, unfolding(crate::specs::Searches::zoom_of))]
+    pub fn zoom(mut self, setup: &Setup, lo: Trial, hi: Trial) -> Search
+        ensures { result ≡ zoom_of setup.now.fixed setup.now.line self lo hi }
+    {
+        self.zooming = true;
+        self.lo = lo;
+        self.hi = hi;
+        if setup.fixed.options.evals <= self.trials || lo.narrow(hi) {
+            return self.failure(&setup.line);
+        }
+        self.eval(lo.interpolate(hi))
+    }
+
+    // The next trial in doubling.
+    #[tactic(auto, unfolding(crate::specs::Searches::bracket_of))]
+    pub fn bracket(self, setup: &Setup, a: f64) -> Search
+        ensures { result ≡ bracket_of setup.now.fixed setup.now.line self a }
+    {
+        if setup.fixed.options.evals <= self.trials {
+            return self.failure(&setup.line);
+        }
+        self.eval(a)
+    }
 }

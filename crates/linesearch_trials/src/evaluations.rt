@@ -5,6 +5,7 @@ ghost use Rattle.linesearch_trials.specs.Evaluations.{point_at_of, nans_of, eval
 use crate::{Evaluation, Fixed, Line, Trial};
 
 // The point at a step.
+#[tactic(auto, unfolding(crate::specs::Evaluations::point_at_of))]
 pub fn point_at(fixed: Fixed, l: Line, a: f64) -> [f64; 16]
     requires { fixed.n ≤ 16 }
     ensures { result ≡ point_at_of fixed l a }
@@ -19,15 +20,10 @@ fn nans(n: usize) -> [f64; 16]
     requires { n ≤ 16 }
     ensures { result ≡ nans_of n }
 {
-    let mut r = [0.0; 16];
-    let mut i: usize = 0;
-    while i < n {
-        r[i] = 0.0 / 0.0;
-        i += 1;
-    }
-    r
+    vector::filled(n, |i| 0.0 / 0.0)
 }
 
+#[tactic(auto, unfolding(crate::specs::Evaluations::evaluated_of))]
 pub fn evaluated(fixed: Fixed, l: Line, a: f64, v: f64, g: [f64; 16]) -> Evaluation
     requires { fixed.n ≤ 16 }
     ensures { result ≡ evaluated_of fixed l a v g }

@@ -19,7 +19,7 @@ const MARGIN: f64 = 0.05;
 const MIN_REL_WIDTH: f64 = 1e-14;
 
 // The step of a trial, with the value and the slope there.
-#[derive(Clone, Copy)]
+#[derive(Clone, Copy, Default)]
 pub struct Trial {
     pub step: f64,
     pub value: f64,
@@ -27,7 +27,7 @@ pub struct Trial {
 }
 
 // A trial with its point and its gradient.
-#[derive(Clone, Copy)]
+#[derive(Clone, Copy, Default)]
 pub struct Evaluation {
     pub trial: Trial,
     pub x: [f64; 16],
@@ -35,7 +35,7 @@ pub struct Evaluation {
 }
 
 // Where the search starts: point, gradient and value, and the direction with its slope.
-#[derive(Clone, Copy)]
+#[derive(Clone, Copy, Default)]
 pub struct Line {
     pub x: [f64; 16],
     pub g: [f64; 16],
@@ -52,109 +52,114 @@ pub struct Fixed {
     pub options: WolfeOptions,
 }
 
-fn midpoint(lo: Trial, hi: Trial) -> f64
-    ensures { result ≡ midpoint_of lo hi }
-{
-    0.5 * (lo.step + hi.step)
+// What a search does not change: what its start fixes, and the line.
+#[derive(Clone, Copy)]
+pub struct Setup {
+    pub fixed: Fixed,
+    pub line: Line,
 }
 
 // Whether a is not finite, or at or outside the margin from either of two steps.
+#[tactic(auto, unfolding(crate::specs::Cubic::near_end_of))]
 fn near_end(a: f64, p: f64, q: f64) -> bool
     ensures { result ≡ near_end_of a p q }
 {
     let lo = float::min(p, q);
     let hi = float::max(p, q);
     let margin = MARGIN * (hi - lo);
-    if !float::is_finite(a) {
-        return true;
-    }
-    if a <= lo + margin {
-        return true;
-    }
-    a >= hi - margin
+    !float::is_finite(a) || a <= lo + margin || a >= hi - margin
 }
 
-fn d1(lo: Trial, hi: Trial) -> f64
-    ensures { result ≡ d1_of lo hi }
-{
-    lo.slope + hi.slope - 3.0 * (lo.value - hi.value) / (lo.step - hi.step)
+// Two trials, in order: the low end of a bracket and its high end.
+impl Trial {
+    #[tactic(auto, unfolding(crate::specs::Cubic::midpoint_of))]
+    fn midpoint(self, hi: Trial) -> f64
+        ensures { result ≡ midpoint_of self hi }
+    {
+        0.5 * (self.step + hi.step)
+    }
+
+    #[tactic(auto, unfolding(crate::specs::Cubic::d1_of))]
+    fn d1(self, hi: Trial) -> f64
+        ensures { result ≡ d1_of self hi }
+    {
+        self.slope + hi.slope - 3.0 * (self.value - hi.value) / (self.step - hi.step)
+    }
+
+    // The minimiser of the cubic with this discriminant, or the midpoint.
+    #[tactic(auto, unfolding(crate::specs::Cubic::minimiser_of))]
+    fn minimiser(self, hi: Trial, d1: f64, disc: f64) -> f64
+        ensures { result ≡ minimiser_of self hi d1 disc }
+    {
+        let width = hi.step - self.step;
+        let d2 = float::signum(width) * float::sqrt(disc);
+        let denom = hi.slope - self.slope + 2.0 * d2;
+        if denom == 0.0 || !float::is_finite(denom) {
+            return self.midpoint(hi);
+        }
+        let a = hi.step - width * (hi.slope + d2 - d1) / denom;
+        if near_end(a, self.step, hi.step) {
+            return self.midpoint(hi);
+        }
+        a
+    }
+
+    // The step of the next trial between two.
+    #[tactic(auto, unfolding(crate::specs::Cubic::interpolate_of))]
+    pub fn interpolate(self, hi: Trial) -> f64
+        ensures { result ≡ interpolate_of self hi }
+    {
+        if !float::is_finite(self.value)
+            || !float::is_finite(hi.value)
+            || !float::is_finite(self.slope)
+            || !float::is_finite(hi.slope)
+        {
+            return self.midpoint(hi);
+        }
+        let d1 = self.d1(hi);
+        let disc = d1 * d1 - self.slope * hi.slope;
+        if disc < 0.0 {
+            return self.midpoint(hi);
+        }
+        self.minimiser(hi, d1, disc)
+    }
+
+    // Whether no step between the two is left.
+    #[tactic(auto, unfolding(crate::specs::Trials::narrow_of))]
+    pub fn narrow(self, hi: Trial) -> bool
+        ensures { result ≡ narrow_of self hi }
+    {
+        let largest = float::max(float::abs(self.step), float::abs(hi.step));
+        float::abs(hi.step - self.step) <= MIN_REL_WIDTH * float::max(largest, 1.0)
+    }
 }
 
-// The minimiser of the cubic with this discriminant, or the midpoint.
-fn minimiser(lo: Trial, hi: Trial, d1: f64, disc: f64) -> f64
-    ensures { result ≡ minimiser_of lo hi d1 disc }
-{
-    let d2 = float::signum(hi.step - lo.step) * float::sqrt(disc);
-    let denom = hi.slope - lo.slope + 2.0 * d2;
-    if denom == 0.0 {
-        return midpoint(lo, hi);
+impl Line {
+    // The trial at step 0.
+    #[tactic(auto, unfolding(crate::specs::Trials::start_of))]
+    pub fn start(&self) -> Trial
+        ensures { result ≡ start_of self.now }
+    {
+        Trial {
+            step: 0.0,
+            value: self.f,
+            slope: self.slope,
+        }
     }
-    if !float::is_finite(denom) {
-        return midpoint(lo, hi);
-    }
-    let a = hi.step - (hi.step - lo.step) * (hi.slope + d2 - d1) / denom;
-    if near_end(a, lo.step, hi.step) {
-        return midpoint(lo, hi);
-    }
-    a
-}
 
-// The step of the next trial between two.
-pub fn interpolate(lo: Trial, hi: Trial) -> f64
-    ensures { result ≡ interpolate_of lo hi }
-{
-    if !float::is_finite(lo.value) {
-        return midpoint(lo, hi);
+    // Whether the value has decreased enough.
+    #[tactic(auto, unfolding(crate::specs::Trials::armijo_of))]
+    pub fn armijo(&self, o: WolfeOptions, t: Trial) -> bool
+        ensures { result ≡ armijo_of o self.now t }
+    {
+        t.value <= self.f + o.c1 * t.step * self.slope
     }
-    if !float::is_finite(hi.value) {
-        return midpoint(lo, hi);
-    }
-    if !float::is_finite(lo.slope) {
-        return midpoint(lo, hi);
-    }
-    if !float::is_finite(hi.slope) {
-        return midpoint(lo, hi);
-    }
-    let d1 = d1(lo, hi);
-    let disc = d1 * d1 - lo.slope * hi.slope;
-    if disc < 0.0 {
-        return midpoint(lo, hi);
-    }
-    minimiser(lo, hi, d1, disc)
-}
 
-// The trial at step 0.
-pub fn start(l: Line) -> Trial
-    ensures { result ≡ start_of l }
-{
-    Trial {
-        step: 0.0,
-        value: l.f,
-        slope: l.slope,
+    // Whether the slope is flat enough.
+    #[tactic(auto, unfolding(crate::specs::Trials::curvature_of))]
+    pub fn curvature(&self, o: WolfeOptions, t: Trial) -> bool
+        ensures { result ≡ curvature_of o self.now t }
+    {
+        float::is_finite(t.slope) && float::abs(t.slope) <= -o.c2 * self.slope
     }
-}
-
-// Whether the value has decreased enough.
-pub fn armijo(o: WolfeOptions, l: Line, t: Trial) -> bool
-    ensures { result ≡ armijo_of o l t }
-{
-    t.value <= l.f + o.c1 * t.step * l.slope
-}
-
-// Whether the slope is flat enough.
-pub fn curvature(o: WolfeOptions, l: Line, t: Trial) -> bool
-    ensures { result ≡ curvature_of o l t }
-{
-    if !float::is_finite(t.slope) {
-        return false;
-    }
-    float::abs(t.slope) <= -o.c2 * l.slope
-}
-
-// Whether no step between the two is left.
-pub fn narrow(lo: Trial, hi: Trial) -> bool
-    ensures { result ≡ narrow_of lo hi }
-{
-    float::abs(hi.step - lo.step)
-        <= MIN_REL_WIDTH * float::max(float::max(float::abs(lo.step), float::abs(hi.step)), 1.0)
 }

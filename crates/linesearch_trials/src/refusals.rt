@@ -1,12 +1,13 @@
 // What a search starts from, and the tests of `strong_wolfe`.
 ghost use Rattle.std.specs.Prelude.{◌≡◌, ◌≤◌};
-ghost use Rattle.protocol.specs.Protocol.{refusal};
+ghost use Rattle.protocol.specs.Protocol.{as_result};
 ghost use Rattle.linesearch_trials.specs.Start.{line_from_of, options_refusal_of, counts_refusal_of, line_refusal_of};
 
 use crate::Line;
 use protocol::{Refusal, WolfeOptions};
 
 // The line from x along d, where the value is f and the gradient g.
+#[tactic(auto, unfolding(crate::specs::Start::line_from_of))]
 pub fn line_from(x: [f64; 16], d: [f64; 16], f: f64, g: [f64; 16], n: usize) -> Line
     requires { n ≤ 16 }
     ensures { result ≡ line_from_of x d f g n }
@@ -15,78 +16,75 @@ pub fn line_from(x: [f64; 16], d: [f64; 16], f: f64, g: [f64; 16], n: usize) -> 
     Line { x, g, d, f, slope }
 }
 
-fn refuse(number: u64, detail: u64) -> Refusal
-    ensures { result ≡ refusal number detail }
-{
-    Refusal { number, detail }
-}
-
 // 5, 6 and 7.
-pub fn options_refusal(o: WolfeOptions) -> Refusal
-    ensures { result ≡ options_refusal_of o }
+#[tactic(auto, unfolding(crate::specs::Start::options_refusal_of, protocol::specs::Protocol::as_result))]
+pub fn options_refusal(o: WolfeOptions) -> Result<(), Refusal>
+    ensures { result ≡ as_result (options_refusal_of o) }
 {
     if !(0.0 < o.c1) {
-        return refuse(5, 1);
+        return Err(Refusal::new(5, 1));
     }
     if !(o.c1 < 1.0) {
-        return refuse(5, 1);
+        return Err(Refusal::new(5, 1));
     }
     if !(o.c1 < o.c2) {
-        return refuse(5, 2);
+        return Err(Refusal::new(5, 2));
     }
     if !(o.c2 < 1.0) {
-        return refuse(5, 2);
+        return Err(Refusal::new(5, 2));
     }
     if o.evals == 0 {
-        return refuse(6, 0);
+        return Err(Refusal::new(6, 0));
     }
     if !float::positive(o.stepmax) {
-        return refuse(7, 0);
+        return Err(Refusal::new(7, 0));
     }
-    refuse(0, 0)
+    Ok(())
 }
 
 // 9, 10 and 11, by the counts of coordinates that were lent.
-pub fn counts_refusal(n: usize, dcount: usize, gcount: usize) -> Refusal
-    ensures { result ≡ counts_refusal_of n dcount gcount }
+#[tactic(auto, unfolding(crate::specs::Start::counts_refusal_of, protocol::specs::Protocol::as_result))]
+pub fn counts_refusal(n: usize, dcount: usize, gcount: usize) -> Result<(), Refusal>
+    ensures { result ≡ as_result (counts_refusal_of n dcount gcount) }
 {
     if n == 0 {
-        return refuse(9, 0);
+        return Err(Refusal::new(9, 0));
     }
     if dcount != n {
-        return refuse(10, 0);
+        return Err(Refusal::new(10, 0));
     }
     if gcount != n {
-        return refuse(11, 0);
+        return Err(Refusal::new(11, 0));
     }
-    refuse(0, 0)
+    Ok(())
 }
 
 // 12, 13 and 14.
-pub fn line_refusal(n: usize, l: Line, step: f64) -> Refusal
+#[tactic(auto, unfolding(crate::specs::Start::line_refusal_of, protocol::specs::Protocol::as_result))]
+pub fn line_refusal(n: usize, l: Line, step: f64) -> Result<(), Refusal>
     requires { n ≤ 16 }
-    ensures { result ≡ line_refusal_of n l step }
+    ensures { result ≡ as_result (line_refusal_of n l step) }
 {
     let x = l.x;
     let d = l.d;
     let g = l.g;
     if !vector::all_finite(x, n) {
-        return refuse(12, 1);
+        return Err(Refusal::new(12, 1));
     }
     if !vector::all_finite(d, n) {
-        return refuse(12, 2);
+        return Err(Refusal::new(12, 2));
     }
     if !vector::all_finite(g, n) {
-        return refuse(12, 3);
+        return Err(Refusal::new(12, 3));
     }
     if !float::is_finite(l.f) {
-        return refuse(12, 4);
+        return Err(Refusal::new(12, 4));
     }
     if !float::positive(step) {
-        return refuse(13, 0);
+        return Err(Refusal::new(13, 0));
     }
     if 0.0 <= l.slope {
-        return refuse(14, 0);
+        return Err(Refusal::new(14, 0));
     }
-    refuse(0, 0)
+    Ok(())
 }

@@ -3,8 +3,10 @@
 #![tactic(auto)]
 
 ghost use Rattle.std.specs.Prelude.{◌≡◌, ◌≤◌, ◌<◌};
-ghost use Rattle.neldermead.specs.Step.{building, reason_of, headed_of, told_of, start_of};
-ghost use Rattle.neldermead.specs.Parts.{among_of, taken_of, reflection_of, outcome_of, place_of, next_at_of, far_of, coefficient_of, next_point_of, next_phase_of, verdict_of};
+ghost use Rattle.vector.specs.Points.{towards_of};
+ghost use Rattle.neldermead_vertices.specs.Vertices.{vertex_at};
+ghost use Rattle.neldermead.specs.Step.{building, reflecting, reason_of, headed_of, told_of, start_of};
+ghost use Rattle.neldermead.specs.Parts.{reflection_of, outcome_of, OutcomeWithin, AskWithin, phase_of, at_of, point_of, verdict_of};
 
 use neldermead_vertices::Vertex;
 use protocol::SimplexOptions;
@@ -12,8 +14,8 @@ use protocol::SimplexOptions;
 // The reflection's coefficient.
 const ALPHA: f64 = 1.0;
 
-// The phases of a simplex fit. What the open question is for: a vertex of a new simplex, a trial point, or a
-// vertex drawn to the best.
+// The phases of a simplex fit, which are numbers: the record crosses to C, and any number in it must be taken.
+// What the open question is for: a vertex of a new simplex, a trial point, or a vertex drawn to the best.
 pub const BUILDING: u64 = 1;
 
 pub const REFLECTING: u64 = 2;
@@ -36,18 +38,34 @@ pub const BY_SIMPLEX_FEVALS: u64 = 10;
 
 pub const NOT_FINITE: u64 = 11;
 
-// What an answer comes to, where it is not the phase of the next question. No phase has these numbers, and no
-// record holds one: the fit has ended before; a new simplex is whole; the point told, or the reflected point,
-// takes the worst vertex's place; the last vertex is drawn to the best.
-const RESTS: u64 = 0;
+// What the next question is for, where no round ends.
+#[derive(Clone, Copy)]
+enum Ask {
+    // A vertex of a new simplex: the first one, with this coordinate displaced.
+    Corner(usize),
+    // A trial point: the expansion, or the contraction outside or inside.
+    Expansion,
+    Outside,
+    Inside,
+    // This vertex, drawn to the best.
+    Drawn(usize),
+}
 
-const BUILT: u64 = 101;
-
-const TAKES: u64 = 102;
-
-const KEEPS: u64 = 103;
-
-const SHRUNK: u64 = 104;
+// What an answer comes to.
+#[derive(Clone, Copy)]
+enum Outcome {
+    // The fit has ended before.
+    Rests,
+    // A question is next.
+    Asks(Ask),
+    // A new simplex is whole.
+    Built,
+    // The point told takes the worst vertex's place, or the reflected point does.
+    Takes,
+    Keeps,
+    // The last vertex is drawn to the best.
+    Shrunk,
+}
 
 // What the start fixes. The allowances are numbers: an absent one is its default. Coefficients are not
 // kept: they are made anew from n and the options, so that no record can hold others.
@@ -75,178 +93,37 @@ pub struct Simplex {
     pub v: [Vertex; 17],
 }
 
-// The compiler copies a Simplex at each call that it does not inline, and inlines what has one call site. So
-// each decision is a number, and `told` and `headed` alone hold a Simplex, in one local whose parts are
-// replaced; each has one call site.
-
-// By whether vertices are left to be asked for.
-fn among(at: usize, n: usize, more: u64, last: u64) -> u64
-    ensures { result ≡ among_of at n more last }
-{
-    if at < n {
-        return more;
-    }
-    last
-}
-
-// By whether the point told is good enough to be taken.
-fn taken(good: bool, otherwise: u64) -> u64
-    ensures { result ≡ taken_of good otherwise }
-{
-    if good {
-        return TAKES;
-    }
-    otherwise
-}
-
-// What the value of the reflected point comes to.
-fn reflection(f: f64, best: f64, second: f64, worst: f64) -> u64
-    ensures { result ≡ reflection_of f best second worst }
-{
-    if f < best {
-        return EXPANDING;
-    }
-    if f < second {
-        return TAKES;
-    }
-    if f < worst {
-        return CONTRACTING_OUTSIDE;
-    }
-    CONTRACTING_INSIDE
-}
-
-// What the value f comes to, beside the best, the second worst and the worst value and the reflected one.
-fn outcome(
-    phase: u64,
-    at: usize,
-    n: usize,
-    f: f64,
-    best: f64,
-    second: f64,
-    worst: f64,
-    refl: f64,
-) -> u64
-    ensures { result ≡ outcome_of phase at n f best second worst refl }
-{
-    if phase == BUILDING {
-        return among(at, n, BUILDING, BUILT);
-    }
-    if phase == REFLECTING {
-        return reflection(f, best, second, worst);
-    }
-    if phase == EXPANDING {
-        return taken(f < refl, KEEPS);
-    }
-    if phase == CONTRACTING_OUTSIDE {
-        return taken(f <= refl, SHRINKING);
-    }
-    if phase == CONTRACTING_INSIDE {
-        return taken(f < worst, SHRINKING);
-    }
-    if phase == SHRINKING {
-        return among(at, n, SHRINKING, SHRUNK);
-    }
-    RESTS
-}
-
-// The place among the vertices of the point told; 17 where it has none.
-fn place(phase: u64, at: usize, n: usize, what: u64) -> usize
-    ensures { result ≡ place_of phase at n what }
-{
-    if phase == BUILDING {
-        return at;
-    }
-    if phase == SHRINKING {
-        return at;
-    }
-    if what == TAKES {
-        return n;
-    }
-    17
-}
-
-// The vertex that is asked for next.
-fn next_at(phase: u64, at: usize, what: u64) -> usize
-    requires { at ≤ 16 }
-    ensures { result ≡ next_at_of phase at what }
-{
-    if what == BUILDING {
-        return at + 1;
-    }
-    if what == SHRINKING {
-        if phase == SHRINKING {
-            return at + 1;
+impl Ask {
+    // The phase of the question.
+    #[tactic(auto, unfolding(crate::specs::Parts::phase_of))]
+    fn phase(self) -> u64
+        ensures { result ≡ phase_of self }
+    {
+        match self {
+            Ask::Corner(_) => BUILDING,
+            Ask::Expansion => EXPANDING,
+            Ask::Outside => CONTRACTING_OUTSIDE,
+            Ask::Inside => CONTRACTING_INSIDE,
+            Ask::Drawn(_) => SHRINKING,
         }
-        return 1;
     }
-    at
-}
 
-// The vertex from which the next point is made: the one to be drawn to the best, or the worst.
-fn far(n: usize, at: usize, what: u64) -> usize
-    ensures { result ≡ far_of n at what }
-{
-    if what == SHRINKING {
-        return at;
+    // The vertex that is asked for; where none is, `at` stays.
+    #[tactic(auto, unfolding(crate::specs::Parts::at_of))]
+    fn vertex(self, at: usize) -> usize
+        requires { AskWithin 16 self }
+        ensures { result ≡ at_of self at }
+    {
+        match self {
+            Ask::Corner(i) => i + 1,
+            Ask::Drawn(i) => i,
+            _ => at,
+        }
     }
-    n
-}
-
-// A trial's coefficient.
-fn coefficient(o: SimplexOptions, n: usize, what: u64) -> f64
-    requires { n ≤ 16 }
-    ensures { result ≡ coefficient_of o n what }
-{
-    if what == EXPANDING {
-        return ALPHA * neldermead_vertices::expansion(o, n);
-    }
-    if what == CONTRACTING_OUTSIDE {
-        return ALPHA * neldermead_vertices::contraction(o, n);
-    }
-    -neldermead_vertices::contraction(o, n)
-}
-
-// The next point: the best vertex, the seed of a new simplex, with coordinate i displaced; the vertex `old`
-// drawn to the best; or a trial on the line through the centroid c and the worst vertex, `old`.
-fn next_point(
-    o: SimplexOptions,
-    n: usize,
-    i: usize,
-    what: u64,
-    x: [f64; 16],
-    c: [f64; 16],
-    best: Vertex,
-    old: Vertex,
-) -> [f64; 16]
-    requires n_bound { n ≤ 16 }
-    requires i_bound { what ≡ building → i < 16 }
-    ensures { result ≡ next_point_of o n i what x c best old }
-{
-    let b = best.x;
-    let w = old.x;
-    if what == RESTS {
-        return x;
-    }
-    if what == BUILDING {
-        return neldermead_vertices::corner(o.step, b, i);
-    }
-    if what == SHRINKING {
-        return vector::shrunk(b, w, neldermead_vertices::reduction(o, n), n);
-    }
-    vector::towards(c, w, coefficient(o, n, what), n)
-}
-
-// The next phase, where no round ends.
-fn next_phase(phase: u64, what: u64) -> u64
-    ensures { result ≡ next_phase_of phase what }
-{
-    if what == RESTS {
-        return phase;
-    }
-    what
 }
 
 // Why a run stops whose least value is f.
+#[tactic(auto, unfolding(crate::specs::Step::reason_of))]
 fn reason(ftol: f64, f: f64) -> u64
     ensures { result ≡ reason_of ftol f }
 {
@@ -256,125 +133,191 @@ fn reason(ftol: f64, f: f64) -> u64
     BY_TOLERANCE
 }
 
-// The phase after the tests at the head of a round: size and spread, where a run that is done may be followed
-// by another; then max_iter, then max_fevals.
-fn verdict(fit: Fixed, done: bool, f: f64, rounds: u64, runs: u64, fevals: u64) -> u64
-    ensures { result ≡ verdict_of fit done f rounds runs fevals }
-{
-    let o = fit.options;
-    if done {
-        if o.restarts <= runs {
-            return reason(o.ftol, f);
-        }
-        return BUILDING;
-    }
-    if fit.iter <= rounds {
-        return BY_SIMPLEX_ITERATIONS;
-    }
-    if fit.fevals <= fevals {
-        return BY_SIMPLEX_FEVALS;
-    }
-    REFLECTING
-}
-
-// The head of a round, after `fevals` accepted values: the vertices in order, the best of all runs, and the
-// tests. A new simplex is built about the best point; a round begins with the reflected point.
-fn headed(fit: Fixed, s: Simplex, fevals: u64) -> Simplex
-    requires { fit.n ≤ 16 }
-    ensures { result ≡ headed_of fit s fevals }
-{
-    let n = fit.n;
-    let mut q = s;
-    let v = q.v;
-    let w = neldermead_vertices::sorted(v, n);
-    q.v = w;
-    let first = q.v[0];
-    let old = q.best;
-    let best = neldermead_vertices::better_of(first, old);
-    q.best = best;
-    let u = q.v;
-    let done = neldermead_vertices::converged(fit.options, u, n);
-    let phase = verdict(fit, done, first.f, q.rounds, q.runs, fevals);
-    q.phase = phase;
-    if phase == BUILDING {
-        let x = best.x;
-        q.at = 0;
-        q.runs = q.runs + 1;
-        q.x = x;
-        return q;
-    }
-    if phase == REFLECTING {
-        let c = neldermead_vertices::centroid(u, n);
-        let worst = q.v[n];
-        let y = worst.x;
-        let x = vector::towards(c, y, ALPHA, n);
-        q.rounds = q.rounds + 1;
-        q.cen = c;
-        q.x = x;
-        return q;
-    }
-    q
-}
-
-// The value f for the open question, read as fits read values; it is the fevals-th that is accepted. A
-// fit that has ended stays as it is. A simplex whose values are all non-finite is refused with 20.
-pub fn told(fit: Fixed, s: Simplex, f: f64, fevals: u64) -> Simplex
-    requires n_nonzero { 0 < fit.n }
-    requires n_bound { fit.n ≤ 16 }
-    requires at_le_n { s.at ≤ fit.n }
-    ensures { result ≡ told_of fit s f fevals }
-{
-    let n = fit.n;
-    let m = n - 1;
-    let mut q = s;
-    let x = q.x;
-    let here = Vertex { x, f };
-    let what = outcome(q.phase, q.at, n, f, q.v[0].f, q.v[m].f, q.v[n].f, q.refl.f);
-    let i = place(q.phase, q.at, n, what);
-    if q.phase == REFLECTING {
-        q.refl = here;
-    }
-    if what == KEEPS {
-        q.v[n] = q.refl;
-    }
-    if i < 17 {
-        q.v[i] = here;
-    }
-    if what == BUILT {
-        if !neldermead_vertices::any_finite(q.v, n + 1) {
-            q.phase = NOT_FINITE;
-            return q;
+// The compiler copies a Simplex at each call that it does not inline, and inlines what has one call site. So
+// decisions and points are made behind a reference, and `told` and `headed` alone hold a Simplex, in one local
+// whose parts are replaced; each has one call site.
+impl Simplex {
+    // The start at x: the first vertex of the first simplex is asked for.
+    pub fn start(x: [f64; 16]) -> Simplex
+        ensures { result ≡ start_of x }
+    {
+        let zero = [0.0; 16];
+        let refl = Vertex { x: zero, f: 0.0 };
+        Simplex {
+            phase: BUILDING,
+            at: 0,
+            rounds: 0,
+            runs: 0,
+            x,
+            best: Vertex { x, f: 1.0 / 0.0 },
+            cen: zero,
+            refl,
+            v: [refl; 17],
         }
     }
-    if SHRINKING < what {
-        return headed(fit, q, fevals);
-    }
-    q.at = next_at(q.phase, q.at, what);
-    let best = q.v[0];
-    let old = q.v[far(n, q.at, what)];
-    let y = next_point(fit.options, n, i, what, x, q.cen, best, old);
-    q.phase = next_phase(q.phase, what);
-    q.x = y;
-    q
-}
 
-// The start at x: the first vertex of the first simplex is asked for.
-pub fn start(x: [f64; 16]) -> Simplex
-    ensures { result ≡ start_of x }
-{
-    let zero = [0.0; 16];
-    let best = Vertex { x, f: 1.0 / 0.0 };
-    let refl = Vertex { x: zero, f: 0.0 };
-    let v = [refl; 17];
-    Simplex {
-        phase: BUILDING,
-        at: 0,
-        rounds: 0,
-        runs: 0,
-        x,
-        best,
-        cen: zero,
-        refl,
-        v,
+    // What the value f of the reflected point comes to.
+    #[tactic(auto, unfolding(crate::specs::Parts::reflection_of))]
+    fn reflection(&self, n: usize, f: f64) -> Outcome
+        requires n_nonzero { 0 < n }
+        requires n_bound { n ≤ 16 }
+        ensures { result ≡ reflection_of self.now n f }
+    {
+        if f < self.v[0].f {
+            return Outcome::Asks(Ask::Expansion);
+        }
+        if f < self.v[n - 1].f {
+            return Outcome::Takes;
+        }
+        if f < self.v[n].f {
+            return Outcome::Asks(Ask::Outside);
+        }
+        Outcome::Asks(Ask::Inside)
+    }
+
+    // What the value f of the open question comes to.
+    #[tactic(auto, unfolding(crate::specs::Parts::outcome_of, crate::specs::Parts::reflection_of))]
+    fn outcome(&self, n: usize, f: f64) -> Outcome
+        requires n_nonzero { 0 < n }
+        requires n_bound { n ≤ 16 }
+        ensures is { result ≡ outcome_of self.now n f }
+        ensures within { OutcomeWithin n result }
+    {
+        match self.phase {
+            BUILDING if self.at < n => Outcome::Asks(Ask::Corner(self.at)),
+            BUILDING => Outcome::Built,
+            REFLECTING => self.reflection(n, f),
+            EXPANDING if f < self.refl.f => Outcome::Takes,
+            EXPANDING => Outcome::Keeps,
+            CONTRACTING_OUTSIDE if f <= self.refl.f => Outcome::Takes,
+            CONTRACTING_INSIDE if f < self.v[n].f => Outcome::Takes,
+            CONTRACTING_OUTSIDE | CONTRACTING_INSIDE => Outcome::Asks(Ask::Drawn(1)),
+            SHRINKING if self.at < n => Outcome::Asks(Ask::Drawn(self.at + 1)),
+            SHRINKING => Outcome::Shrunk,
+            _ => Outcome::Rests,
+        }
+    }
+
+    // The trial point on the line through the centroid and the worst vertex.
+    fn trial(&self, n: usize, coef: f64) -> [f64; 16]
+        requires { n ≤ 16 }
+        ensures { result ≡ towards_of self.now.cen (vertex_at self.now.v n).x coef n }
+    {
+        vector::towards(self.cen, self.v[n].x, coef, n)
+    }
+
+    // The next point.
+    #[tactic(auto, unfolding(crate::specs::Parts::point_of))]
+    fn point(&self, fit: Fixed, ask: Ask) -> [f64; 16]
+        requires n_bound { fit.n ≤ 16 }
+        requires within { AskWithin fit.n ask }
+        ensures { result ≡ point_of fit self.now ask }
+    {
+        let n = fit.n;
+        let o = fit.options;
+        match ask {
+            Ask::Corner(i) => neldermead_vertices::corner(o.step, self.v[0].x, i),
+            Ask::Expansion => self.trial(n, ALPHA * neldermead_vertices::expansion(o, n)),
+            Ask::Outside => self.trial(n, ALPHA * neldermead_vertices::contraction(o, n)),
+            Ask::Inside => self.trial(n, -neldermead_vertices::contraction(o, n)),
+            Ask::Drawn(i) => {
+                let delta = neldermead_vertices::reduction(o, n);
+                vector::shrunk(self.v[0].x, self.v[i].x, delta, n)
+            }
+        }
+    }
+
+    // The phase after the tests at the head of a round: size and spread, where a run that is done may be followed
+    // by another; then max_iter, then max_fevals.
+    #[tactic(auto, unfolding(crate::specs::Parts::verdict_of, crate::specs::Step::reason_of))]
+    fn verdict(&self, fit: Fixed, fevals: u64) -> u64
+        requires { fit.n ≤ 16 }
+        ensures is { result ≡ verdict_of fit self.now fevals }
+        ensures reruns { result ≡ building → self.now.runs < fit.options.restarts }
+        ensures goes { result ≡ reflecting → self.now.rounds < fit.iter }
+    {
+        let o = fit.options;
+        if neldermead_vertices::converged(o, self.v, fit.n) {
+            if o.restarts <= self.runs {
+                return reason(o.ftol, self.v[0].f);
+            }
+            return BUILDING;
+        }
+        if fit.iter <= self.rounds {
+            return BY_SIMPLEX_ITERATIONS;
+        }
+        if fit.fevals <= fevals {
+            return BY_SIMPLEX_FEVALS;
+        }
+        REFLECTING
+    }
+
+    // The head of a round, after `fevals` accepted values: the vertices in order, the best of all runs, and the
+    // tests. A new simplex is built about the best point; a round begins with the reflected point.
+    fn headed(mut self, fit: Fixed, fevals: u64) -> Simplex
+        requires { fit.n ≤ 16 }
+        ensures { result ≡ headed_of fit self fevals }
+    {
+        let n = fit.n;
+        let w = neldermead_vertices::sorted(self.v, n);
+        self.v = w;
+        let best = neldermead_vertices::better_of(self.v[0], self.best);
+        self.best = best;
+        let phase = self.verdict(fit, fevals);
+        self.phase = phase;
+        match phase {
+            BUILDING => {
+                self.at = 0;
+                self.runs += 1;
+                self.x = self.best.x;
+            }
+            REFLECTING => {
+                self.rounds += 1;
+                let cen = neldermead_vertices::centroid(self.v, n);
+                self.cen = cen;
+                let x = self.trial(n, ALPHA);
+                self.x = x;
+            }
+            _ => {}
+        }
+        self
+    }
+
+    // The value f for the open question, read as fits read values; it is the fevals-th that is accepted. A
+    // fit that has ended stays as it is. A simplex whose values are all non-finite is refused with 20.
+    pub fn told(mut self, fit: Fixed, f: f64, fevals: u64) -> Simplex
+        requires n_nonzero { 0 < fit.n }
+        requires n_bound { fit.n ≤ 16 }
+        requires at_le_n { self.at ≤ fit.n }
+        ensures { result ≡ told_of fit self f fevals }
+    {
+        let n = fit.n;
+        let outcome = self.outcome(n, f);
+        let here = Vertex { x: self.x, f };
+        match self.phase {
+            BUILDING | SHRINKING => self.v[self.at] = here,
+            REFLECTING => self.refl = here,
+            _ => {}
+        }
+        match outcome {
+            Outcome::Rests => return self,
+            Outcome::Asks(ask) => {
+                let x = self.point(fit, ask);
+                self.phase = ask.phase();
+                self.at = ask.vertex(self.at);
+                self.x = x;
+                return self;
+            }
+            Outcome::Built => {
+                if !neldermead_vertices::any_finite(self.v, n + 1) {
+                    self.phase = NOT_FINITE;
+                    return self;
+                }
+            }
+            Outcome::Takes => self.v[n] = here,
+            Outcome::Keeps => self.v[n] = self.refl,
+            Outcome::Shrunk => {}
+        }
+        self.headed(fit, fevals)
     }
 }

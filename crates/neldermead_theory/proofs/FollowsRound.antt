@@ -24,7 +24,7 @@ use Rattle.neldermead_theory.specs.Phases.{Phase, Move, expanding, outside, insi
 use Rattle.neldermead_vertices.specs.Vertices.{no_vertex, vertex_at}
 use Rattle.neldermead.specs.Step.{expanding as expanding_mark, contracting_outside, contracting_inside, vertex_of, with_refl, trial_of, replaced_of, reflected_of, expanded_of, shrink_of, outside_of, inside_of}
 use Rattle.neldermead_theory.specs.Ties.{lowered, VerticesTied}
-use Rattle.neldermead_theory.specs.Follows.{AtPosition, InRound, InTrial, Holds, mark_of, position_of, Related, RelatedMove, settled_move, SimplexAllows}
+use Rattle.neldermead_theory.specs.Follows.{AtPosition, InRound, InTrial, InPhase, mark_of, position_of, Related, RelatedMove, settled_move, SimplexAllows}
 use Rattle.neldermead_theory.proofs.Ties.{vertices_tied}
 use Rattle.neldermead_theory.proofs.FollowsHead.{carried, replaced_follows}
 use Rattle.neldermead_theory.proofs.FollowsShrink.{draw_follows}
@@ -115,7 +115,7 @@ module _ (fit : Fixed) (l : FitLimits) (allows : SimplexAllows fit l) (v : ℕ) 
 
       -- the question at the trial point with the coefficient c
       trial_related : (k : ℕ) (c : SimplexOptions → ℕ → Float) (ph : Phase) → k ≡ mark_of ph → towards p (c p.options p.n) ≡ point_of ph → position_of ph ≡ p
-          → Holds fit (trial_of fit.n next k (c fit.options fit.n)) ph → Related fit (trial_of fit.n next k (c fit.options fit.n)) ph
+          → InPhase fit (trial_of fit.n next k (c fit.options fit.n)) ph → Related fit (trial_of fit.n next k (c fit.options fit.n)) ph
       unfolding trial_of
       trial_related k c ph m y q h =
           let same : c fit.options fit.n ≡ c p.options p.n = rw (position.options, position.count) in

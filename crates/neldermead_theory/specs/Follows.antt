@@ -97,20 +97,20 @@ module _ (fit : Fixed) (s : Simplex) where
     pub left : xs ≡ drop s.at (drawn p)
 
   -- what a phase holds beside its position and its point
-  abbrev pub Holds : Phase → Type 0
-  Holds (building p us x xs) = InBuild us xs
-  Holds (reflecting p) = InRound p
-  Holds (expanding p r) = InTrial p r
-  Holds (outside p r) = InTrial p r
-  Holds (inside p) = InRound p
-  Holds (shrinking p us x xs) = InShrink p us xs
+  abbrev pub InPhase : Phase → Type 0
+  InPhase (building p us x xs) = InBuild us xs
+  InPhase (reflecting p) = InRound p
+  InPhase (expanding p r) = InTrial p r
+  InPhase (outside p r) = InTrial p r
+  InPhase (inside p) = InRound p
+  InPhase (shrinking p us x xs) = InShrink p us xs
 
   -- the record is at the phase
   pub record Related (ph : Phase) : Type 0 where
     pub mark : s.phase ≡ mark_of ph
     pub point : first fit.n s.x ≡ point_of ph
     pub position : AtPosition (position_of ph)
-    pub holds : Holds ph
+    pub holds : InPhase ph
 
   -- the mark is that of the reason; a simplex fit has no other
   abbrev pub StoppedBy : Termination → Type 0

@@ -6,6 +6,7 @@ ghost use Rattle.neldermead_vertices.specs.Method.{adapts, beta, gamma, delta, d
 ghost use Rattle.neldermead_vertices.specs.Vertices.{sorted_of, centroid_of, corner_of, size_of, any_finite_of, flat_of, converged_of};
 
 use protocol::SimplexOptions;
+use std::num::nearest_usize_to_f64;
 
 // The least edge of a new simplex.
 const ZERO_STEP: f64 = 0.00025;
@@ -28,15 +29,10 @@ pub fn sorted(v: [Vertex; 17], n: usize) -> [Vertex; 17]
     ensures { result ≡ sorted_of v n }
 {
     let mut w = v;
-    let mut i = n;
-    while 0 < i {
-        i -= 1;
+    for i in (0..n).rev() {
         let u = w[i];
         let mut j = i;
-        while j < n {
-            if !float::precedes(w[j + 1].f, u.f) {
-                break;
-            }
+        while j < n && float::precedes(w[j + 1].f, u.f) {
             w[j] = w[j + 1];
             j += 1;
         }
@@ -46,23 +42,21 @@ pub fn sorted(v: [Vertex; 17], n: usize) -> [Vertex; 17]
 }
 
 // The mean of the first n vertices.
+#[tactic(auto, unfolding(crate::specs::Vertices::centroid_of, crate::specs::Vertices::summed_of))]
 pub fn centroid(v: [Vertex; 17], n: usize) -> [f64; 16]
     requires { n ≤ 16 }
     ensures { result ≡ centroid_of v n }
 {
     let mut sum = [0.0; 16];
-    let mut i: usize = 0;
-    while i < n {
-        let p = v[i];
-        let x = p.x;
-        let next = vector::addition(sum, x, n);
+    for i in 0..n {
+        let next = vector::addition(sum, v[i].x, n);
         sum = next;
-        i += 1;
     }
-    vector::quotient(sum, (n as u16) as f64, n)
+    vector::quotient(sum, nearest_usize_to_f64(n), n)
 }
 
 // A coordinate displaced away from zero.
+#[tactic(auto, unfolding(crate::specs::Method::displaced))]
 fn edge(initial: f64, v: f64) -> f64
     ensures { result ≡ displaced initial v }
 {
@@ -74,6 +68,7 @@ fn edge(initial: f64, v: f64) -> f64
 }
 
 // The seed with coordinate i displaced.
+#[tactic(auto, unfolding(crate::specs::Vertices::corner_of))]
 pub fn corner(initial: f64, seed: [f64; 16], i: usize) -> [f64; 16]
     requires { i < 16 }
     ensures { result ≡ corner_of initial seed i }
@@ -88,18 +83,12 @@ fn size(v: [Vertex; 17], n: usize) -> f64
     requires { n ≤ 16 }
     ensures { result ≡ size_of v n n }
 {
-    let b = v[0];
-    let y = b.x;
-    let mut m = 0.0;
-    let mut i: usize = 0;
-    while i < n {
-        let p = v[i + 1];
-        let x = p.x;
-        let d = vector::difference(x, y, n);
-        m = float::max(m, vector::inf_norm(d, n));
-        i += 1;
-    }
-    m
+    vector::folded(n, 0.0, |m: f64, i| {
+        float::max(
+            m,
+            vector::inf_norm(vector::difference(v[i + 1].x, v[0].x, n), n),
+        )
+    })
 }
 
 // Whether one of the first k values is finite.
@@ -107,18 +96,11 @@ pub fn any_finite(v: [Vertex; 17], k: usize) -> bool
     requires { k ≤ 17 }
     ensures { result ≡ any_finite_of v k }
 {
-    let mut i: usize = 0;
-    while i < k {
-        let p = v[i];
-        if float::is_finite(p.f) {
-            return true;
-        }
-        i += 1;
-    }
-    false
+    v[..k].iter().any(|u| float::is_finite(u.f))
 }
 
 // The resolution of a quantity of this scale: the floor under its tolerance.
+#[tactic(auto, unfolding(crate::specs::Method::resolution))]
 pub fn floor(scale: f64) -> f64
     ensures { result ≡ resolution scale }
 {
@@ -126,6 +108,7 @@ pub fn floor(scale: f64) -> f64
 }
 
 // Whether the spread of values is within the tolerance or its floor.
+#[tactic(auto, unfolding(crate::specs::Vertices::flat_of))]
 fn flat(tol: f64, least: f64, most: f64) -> bool
     ensures { result ≡ flat_of tol least most }
 {
@@ -134,20 +117,17 @@ fn flat(tol: f64, least: f64, most: f64) -> bool
 
 // Whether size and spread of the first n + 1 vertices, in order, are within tolerances or floors. The spread
 // first: the size takes all coordinates.
+#[tactic(auto, unfolding(crate::specs::Vertices::converged_of))]
 pub fn converged(o: SimplexOptions, v: [Vertex; 17], n: usize) -> bool
     requires { n ≤ 16 }
     ensures { result ≡ converged_of o v n }
 {
-    let b = v[0];
-    if !flat(o.ftol, b.f, v[n].f) {
-        return false;
-    }
-    let x = b.x;
-    let stop = float::max(o.xtol, floor(vector::inf_norm(x, n)));
-    size(v, n) <= stop
+    flat(o.ftol, v[0].f, v[n].f)
+        && size(v, n) <= float::max(o.xtol, floor(vector::inf_norm(v[0].x, n)))
 }
 
 // Only a smaller value takes the best's place.
+#[tactic(auto, unfolding(crate::specs::Method::better))]
 pub fn better_of(u: Vertex, b: Vertex) -> Vertex
     ensures { result ≡ better u b }
 {
@@ -161,41 +141,38 @@ pub fn better_of(u: Vertex, b: Vertex) -> Vertex
 fn adaptive(o: SimplexOptions, n: usize) -> bool
     ensures { result ≡ adapts o n }
 {
-    if o.adaptive {
-        return 2 < n;
-    }
-    false
+    o.adaptive && 2 < n
 }
 
 // The expansion's coefficient.
+#[tactic(auto, unfolding(crate::specs::Method::beta))]
 pub fn expansion(o: SimplexOptions, n: usize) -> f64
-    requires { n ≤ 16 }
     ensures { result ≡ beta o n }
 {
     if adaptive(o, n) {
-        return 1.0 + 2.0 / ((n as u16) as f64);
+        return 1.0 + 2.0 / nearest_usize_to_f64(n);
     }
     2.0
 }
 
 // The contraction's coefficient.
+#[tactic(auto, unfolding(crate::specs::Method::gamma))]
 pub fn contraction(o: SimplexOptions, n: usize) -> f64
-    requires { n ≤ 16 }
     ensures { result ≡ gamma o n }
 {
     if adaptive(o, n) {
-        return 0.75 - 1.0 / (2.0 * ((n as u16) as f64));
+        return 0.75 - 1.0 / (2.0 * nearest_usize_to_f64(n));
     }
     0.5
 }
 
 // The shrink's coefficient.
+#[tactic(auto, unfolding(crate::specs::Method::delta))]
 pub fn reduction(o: SimplexOptions, n: usize) -> f64
-    requires { n ≤ 16 }
     ensures { result ≡ delta o n }
 {
     if adaptive(o, n) {
-        return 1.0 - 1.0 / ((n as u16) as f64);
+        return 1.0 - 1.0 / nearest_usize_to_f64(n);
     }
     0.5
 }

@@ -4,25 +4,12 @@
 
 ghost use Rattle.std.specs.Prelude.{◌≡◌};
 ghost use Rattle.optim_record.specs.Record.{outcome_of};
-ghost use Rattle.optim_reply.specs.Spoken.{reply_with, spoken_by, spoken_in};
+ghost use Rattle.optim_reply.specs.Spoken.{spoken_by, spoken_in};
 ghost use Rattle.optim.specs.Answer.{answer_of};
-ghost use Rattle.optim.specs.Parts.{Speaks, replied_of};
 
 pub use optim_record::{Answered, Record, blank, valid};
-use optim_reply::Spoken;
 pub use optim_start::{bfgs, differences, lbfgs, search, simplex};
 use protocol::{SEARCH, SIMPLEX};
-
-// What is said of a record, after an answer that met the refusal `why`.
-fn replied(r: Record, why: u64) -> Spoken
-    requires { Speaks r why }
-    ensures { (reply_with result r ≡ replied_of r why) × (result ≡ spoken_by (replied_of r why)) }
-{
-    if why != 0 {
-        return optim_reply::refused(why, 0);
-    }
-    optim_reply::standing(r)
-}
 
 // An answer to the open question: its number, its kind's letter, and its words. A refused or repeated
 // answer returns the very record that was passed. One record is kept and parts of it are replaced, so that
@@ -32,8 +19,11 @@ pub fn answer(r: Record, number: u64, kind: u8, words: &[f64]) -> Answered
     ensures spoken { spoken_in result ≡ spoken_by (answer_of r number kind words.now) }
 {
     let mut q = r;
-    let why = optim_rules::meets(q, number, kind, words.len());
-    if optim_rules::accepts(q, number, why) {
+    let accepted = match optim_rules::accepts(q, number, kind, words.len()) {
+        Ok(accepted) => accepted,
+        Err(why) => return optim_reply::answered(optim_reply::refused(why), q),
+    };
+    if accepted {
         let counts = optim_rules::counted(q);
         if q.job == SIMPLEX {
             let next = optim_rules::simplex_told(q, words);
@@ -43,7 +33,7 @@ pub fn answer(r: Record, number: u64, kind: u8, words: &[f64]) -> Answered
             q.descent = next;
         } else if optim_record::gradient_job(q.job) {
             let told = optim_rules::descent_told(q, words);
-            if quasinewton::asks(told) {
+            if told.asks() {
                 q.descent = told;
             } else {
                 let fixed = optim_reply::gradient_fixed(q);
@@ -58,12 +48,11 @@ pub fn answer(r: Record, number: u64, kind: u8, words: &[f64]) -> Answered
             }
         } else {
             let old = q.diff;
-            let next = objective::told(old, words[0]);
+            let next = old.told(words[0]);
             q.diff = next;
         }
         q.accepted = q.accepted + 1;
         q.counts = counts;
     }
-    let s = replied(q, why);
-    optim_reply::answered(s, q)
+    optim_reply::answered(optim_reply::standing(q), q)
 }

@@ -11,8 +11,9 @@ use Rattle.protocol.specs.declared.WolfeOptions.{WolfeOptions}
 use Rattle.protocol.specs.declared.GradientOptions.{GradientOptions}
 use Rattle.protocol.specs.declared.Allowances.{Allowances}
 use Rattle.protocol.specs.Protocol.{refusal, no_refusal}
+use Rattle.protocol.specs.PastLimits.{excess}
 use Rattle.linesearch_trials.specs.Start.{options_refusal_of, counts_refusal_of}
-use Rattle.optim_first_record.specs.Starts.{excess_of, past_limits_of, simplex_refusal_of, search_past_limits_of, search_refusal_of, gradient_past_limits_of, gradient_refusal_of}
+use Rattle.optim_first_record.specs.Starts.{past_limits_of, simplex_refusal_of, search_past_limits_of, search_refusal_of, gradient_past_limits_of, gradient_refusal_of}
 
 -- a chain of tests that is false has met none
 missed : (b x : Bool) → cond b true x ≡ false → (b ≡ false) × (x ≡ false)
@@ -23,8 +24,8 @@ within_limits : (count : ℕ) (o : SimplexOptions) (a : Allowances) → past_lim
 unfolding past_limits_of
 within_limits count o a e =
     let f = missed (ltb 16 count) _ e in
-    let g = missed (excess_of a.iter) _ f.1 in
-    let h = missed (excess_of a.fevals) _ g.1 in
+    let g = missed (excess a.iter) _ f.1 in
+    let h = missed (excess a.fevals) _ g.1 in
     (ltb-false _ _ f.0, ltb-false _ _ h.1)
 
 -- a start that meets no refusal keeps to 2's limits
@@ -38,19 +39,6 @@ simplex_limits count o a e = at (past_limits_of count o a) refl e
     at : (b : Bool) → past_limits_of count o a ≡ b → (simplex_refusal_of count o a).number ≡ 0 → (count ≤ 16) × (o.restarts ≤ 100)
     at true h z = absurd (two (rw h at z))
     at false h z = within_limits count o a h
-
--- an allowance's default is a u64
-pub default_fits : (n k : ℕ) → n ≤ 16 → k ≤ 100 → 200 * n * (1 + k) < 2 ^ 64
-default_fits n k h j = lt_of_le_of_lt (le_trans (mul-le-mul_right (1 + k) (small n h)) (mul-le-mul_left 3200 (more k j))) below
-  where
-    small : (n : ℕ) → n ≤ 16 → 200 * n ≤ 3200
-    small n h = omega arith
-
-    more : (k : ℕ) → k ≤ 100 → 1 + k ≤ 101
-    more k j = omega arith
-
-    below : 3200 * 101 < 2 ^ 64
-    below = omega arith
 
 -- lists of one length
 same_counts : (n dcount gcount : ℕ) → (counts_refusal_of n dcount gcount).number ≡ 0 → (dcount ≡ n) × (gcount ≡ n)

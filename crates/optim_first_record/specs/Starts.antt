@@ -1,16 +1,16 @@
 -- The first records of starts, and the refusals that a start meets before its points are looked at. Definitions only.
-use Rattle.std.specs.Prelude.{ℕ, ◌+◌, ◌*◌, Bool, true, false, not, cond, List, ltb, eqb, length, replicate, Float}
+use Rattle.std.specs.Prelude.{ℕ, ◌+◌, ◌*◌, Bool, true, false, not, cond, List, ltb, eqb, length, replicate, unwrap_or, Float}
 use Rattle.std.specs.Float.Ieee.{lt}
 use Rattle.float.specs.Binary64.{plus_zero}
 use Rattle.float.specs.Values.{tolerance_of, positive_of}
 use Rattle.vector.specs.Points.{from_slice_of}
-use Rattle.protocol.specs.declared.Allowance.{Allowance}
 use Rattle.protocol.specs.declared.Allowances.{Allowances}
 use Rattle.protocol.specs.declared.SimplexOptions.{SimplexOptions}
 use Rattle.protocol.specs.declared.WolfeOptions.{WolfeOptions}
 use Rattle.protocol.specs.declared.GradientOptions.{GradientOptions}
 use Rattle.protocol.specs.declared.Refusal.{Refusal}
 use Rattle.protocol.specs.Protocol.{refusal, no_refusal, simplex_mark, bfgs_mark, lbfgs_mark, search_mark, differences_mark}
+use Rattle.protocol.specs.PastLimits.{excess}
 use Rattle.objective.specs.Step.{begun_of}
 use Rattle.linesearch_trials.specs.declared.Line.{Line}
 use Rattle.linesearch_trials.specs.Start.{options_refusal_of, counts_refusal_of}
@@ -22,7 +22,7 @@ use Rattle.quasinewton.specs.Step.{searching, idle_of as idle_descent, start_of 
 use Rattle.neldermead.specs.Step.{start_of}
 use Rattle.optim_record.specs.declared.Limits.{Limits}
 use Rattle.optim_record.specs.declared.Record.{Record}
-use Rattle.optim_record.specs.Record.{idle_of, no_options, wolfe_options_of, no_gradient_options, most_allowed, most_restarts, most_evals, no_limit}
+use Rattle.optim_record.specs.Record.{idle_of, no_options, wolfe_options_of, no_gradient_options, most_restarts, most_evals, no_limit}
 
 -- ---- differences
 
@@ -44,14 +44,9 @@ begun_record_of x =
 
 -- ---- simplex
 
--- 2: "an allowance above 1,000,000"
-unfoldable pub excess_of : Allowance → Bool
-excess_of a = cond a.given (ltb most_allowed a.count) false
-
 -- 2: "A lent list .. is above 16, an allowance above 1,000,000, .. or restarts above 100."
 unfoldable pub past_limits_of : ℕ → SimplexOptions → Allowances → Bool
-unfolding excess_of
-past_limits_of count o a = cond (ltb 16 count) true (cond (excess_of a.iter) true (cond (excess_of a.fevals) true (ltb most_restarts o.restarts)))
+past_limits_of count o a = cond (ltb 16 count) true (cond (excess a.iter) true (cond (excess a.fevals) true (ltb most_restarts o.restarts)))
 
 -- which refusal a start of so many coordinates meets, before the point is looked at; 0 for none
 unfoldable pub simplex_refusal_of : ℕ → SimplexOptions → Allowances → Refusal
@@ -64,12 +59,8 @@ simplex_refusal_of count o a =
     (cond (eqb count 0) (refusal 9 0) no_refusal))))
 
 -- "absent, each is 200·n·(1+restarts)"
-unfoldable pub limit_of : Allowance → ℕ → ℕ
-limit_of a default = cond a.given a.count default
-
 unfoldable pub simplex_limits_of : ℕ → SimplexOptions → Allowances → Limits
-unfolding limit_of
-simplex_limits_of n o a = let default = 200 * n * (1 + o.restarts) in record { iter = limit_of a.iter default; fevals = limit_of a.fevals default }
+simplex_limits_of n o a = let default = 200 * n * (1 + o.restarts) in record { iter = unwrap_or a.iter default; fevals = unwrap_or a.fevals default }
 
 -- the first record of a fit of n coordinates at a point of sixteen
 unfoldable pub simplex_record_of : List Float → ℕ → SimplexOptions → Allowances → Record
@@ -137,11 +128,10 @@ search_record_of l n step o gradients =
 
 -- 2: "A lent list or memory is above 16, an allowance above 1,000,000, max_evals above 1,000"; bfgs ignores memory
 unfoldable pub gradient_past_limits_of : ℕ → GradientOptions → Allowances → Bool → Bool
-unfolding excess_of
 gradient_past_limits_of count o a limited =
     cond (ltb 16 count) true
-    (cond (excess_of a.iter) true
-    (cond (excess_of a.fevals) true
+    (cond (excess a.iter) true
+    (cond (excess a.fevals) true
     (cond (ltb most_evals o.wolfe.evals) true
     (cond limited (ltb 16 o.memory) false))))
 
@@ -166,8 +156,7 @@ gradient_refusal_of count o a limited =
 
 -- "max_iter (absent: 200·n), max_fevals (absent: none)"
 unfoldable pub gradient_limits_of : ℕ → Allowances → Limits
-unfolding limit_of
-gradient_limits_of n a = record { iter = limit_of a.iter (200 * n); fevals = limit_of a.fevals no_limit }
+gradient_limits_of n a = record { iter = unwrap_or a.iter (200 * n); fevals = unwrap_or a.fevals no_limit }
 
 -- "A bfgs record stores memory 0, whatever was given."
 unfoldable pub kept_options_of : GradientOptions → Bool → GradientOptions

@@ -1,16 +1,19 @@
 -- What an answer leaves, by what the calls on the way to it gave. Assumes nothing.
-use Prim.Native.Nat.{ℕ, suc, ◌+◌, ◌≤◌, ◌<◌}
+use Prim.Native.Nat.{ℕ, ◌<◌, zero-le}
 use mathlib.Core.Path.{◌≡◌, refl, sym, ap, ◌∙◌, subst}
-use mathlib.Core.Bool.{Bool, true, false, ◌&&◌, true≢false}
+use mathlib.Core.Bool.{Bool, true, false, true≢false}
 use mathlib.Core.List.{List}
-use native.Mathlib.Numerals.{add-one}
 use lib.Dec.{leb}
-use lib.ListN.{length, get_or, drop, drop_of_length-le}
-use lib.Seq.{drop-cons}
+use native.Mathlib.Omega.{arith}
+use lib.ListN.{length, take, drop}
 use lib.Ieee.{Float}
-use borrow.Author.Tests.{le-leb, lt-leb, eq-eqb, ne_eqb}
+use borrow.Author.Tests.{eq-eqb, ne_eqb}
+use Rattle.std.specs.Bool.{MatchBool}
+use Rattle.std.specs.List.{AllWithin, HoldsAt}
+use Rattle.std.proofs.lemmas.List.{take_all, length-drop}
+use Rattle.std.proofs.lemmas.List.Recursion.{and_from_places, and_fails_at}
 use Rattle.protocol.specs.declared.Said.TheVariants.{Refused}
-use Rattle.protocol.specs.Protocol.{Reply, reply_of}
+use Rattle.protocol.specs.Protocol.{Reply, refusal, reply_of}
 use Rattle.optim_record.specs.declared.Record.{Record}
 use Rattle.optim_record.specs.declared.Answered.{Answered}
 use Rattle.optim_record.specs.Record.{outcome_of}
@@ -24,26 +27,23 @@ use Rattle.optim_lent_start.proofs.Laws.{Leaves, next_is, leaves, n_read}
 
 -- ---- flags
 
-flags_at : (ms : List ℕ) (i : ℕ) → i < length ms → flags_only (drop i ms) ≡ leb (get_or ms i 0) 1 && flags_only (drop (suc i) ms)
-flags_at ms i h = ap flags_only (drop-cons ms i 0 h)
+-- the flags are all that stands behind the counts
+pub flags_part : (ms : List ℕ) → length ms ≡ place.mark_count → take 11 (drop place.flags ms) ≡ drop place.flags ms
+flags_part ms h = take_all 11 (drop place.flags ms) (omega (arith, length-drop place.flags ms, h))
 
-pub flags_stop : (ms : List ℕ) (i : ℕ) → i < length ms → 1 < get_or ms i 0 → flags_only (drop i ms) ≡ false
-flags_stop ms i h t = flags_at ms i h ∙ rw (lt-leb _ _ t)
-
-pub flags_go : (ms : List ℕ) (i : ℕ) → i < length ms → get_or ms i 0 ≤ 1 → flags_only (drop (i + 1) ms) ≡ flags_only (drop i ms)
-flags_go ms i h t = sym (flags_at ms i h ∙ rw (le-leb _ _ t, add-one i))
-
-pub flags_end : (ms : List ℕ) (i : ℕ) → length ms ≤ i → flags_only (drop i ms) ≡ true
-flags_end ms i h = ap flags_only (drop_of_length-le ms {i = i} h)
+-- what `all` says of them
+pub flags_checked : (b : Bool) (ms : List ℕ) → MatchBool b (AllWithin (λ k. leb k 1 ≡ true) ms 0 (length ms)) ((i : ℕ) × (i < length ms) × HoldsAt (λ k. leb k 1 ≡ false) ms i) → b ≡ flags_only ms
+flags_checked true ms h = sym (and_from_places flags_only (λ k. leb k 1) refl (λ k ks. refl) ms 0 (λ i l. h i 0 zero-le l))
+flags_checked false ms h = sym (and_fails_at flags_only (λ k. leb k 1) refl (λ k ks. refl) ms h.0 0 h.1 (h.2 0))
 
 -- ---- an answer
 
 module _ (l : Lists) (number kind : ℕ) (words : List Float) where
   -- a flag is an unknown mark
-  pub answer_unknown : (p q : List Float) (b : Bool) → b ≡ flags_only (drop place.flags l.marks) → b ≡ false → Leaves (Refused 1 0) l p q p q (answered_of l number kind words)
+  pub answer_unknown : (p q : List Float) (b : Bool) → b ≡ flags_only (drop place.flags l.marks) → b ≡ false → Leaves (Refused (refusal 1 0)) l p q p q (answered_of l number kind words)
   unfolding formed_of reply_of point_with slopes_with
   answer_unknown p q true e t = absurd (true≢false t)
-  answer_unknown p q false e t = subst (Leaves (Refused 1 0) l p q p q) (sym (unknown_flag l number kind words (sym e))) (record { outcome = refl; point = refl; slopes = refl })
+  answer_unknown p q false e t = subst (Leaves (Refused (refusal 1 0)) l p q p q) (sym (unknown_flag l number kind words (sym e))) (record { outcome = refl; point = refl; slopes = refl })
 
   module _ (a : Answered) (r : Record) (p q : List Float) {p' q' : List Float} (b : Bool) (eb : b ≡ flags_only (drop place.flags l.marks)) (fine : b ≡ true) (er : r ≡ record_of l)
       (ea : outcome_of a ≡ answer_of r number kind words) (es : spoken_in a ≡ spoken_by (answer_of r number kind words))

@@ -25,7 +25,7 @@ point_any (Ask k κ) n x g p = refl
 point_any (Fitted s) n x g p = refl
 point_any (Searched s) n x g p = refl
 point_any Differenced n x g p = refl
-point_any (Refused k d) n x g p = refl
+point_any (Refused k) n x g p = refl
 
 slopes_any : (s : Said) (n : ℕ) (x g p : List Float) → slopes_with (reply_of s 0 x g) g p ≡ slopes_with (reply_of s n x g) g p
 unfolding reply_of slopes_with
@@ -33,7 +33,7 @@ slopes_any (Ask k κ) n x g p = refl
 slopes_any (Fitted s) n x g p = refl
 slopes_any (Searched s) n x g p = refl
 slopes_any Differenced n x g p = refl
-slopes_any (Refused k d) n x g p = refl
+slopes_any (Refused k) n x g p = refl
 
 -- the reply is the same of the lists that it was written to
 reply_written : (s : Said) (n : ℕ) (x g p q : List Float) → reply_of s n (point_with (reply_of s 0 x g) x p) (slopes_with (reply_of s 0 x g) g q) ≡ reply_of s n x g
@@ -42,7 +42,7 @@ reply_written (Ask k κ) n x g p q = refl
 reply_written (Fitted s) n x g p q = refl
 reply_written (Searched s) n x g p q = refl
 reply_written Differenced n x g p q = refl
-reply_written (Refused k d) n x g p q = refl
+reply_written (Refused k) n x g p q = refl
 
 -- what is said with a reply is what its record says, where the reply speaks of it
 point_spoken : (y : Reply) (s : Spoken) (p : List Float) → point_with y (spoken_from s y).x p ≡ point_with y s.x p
@@ -105,11 +105,3 @@ module _ (a : Answered) (y : Reply × Record) (p q : List Float) {p' q' : List F
 
       also : Leaves a.said l p q p' q' (y.0, l) → Leaves a.said l p q p' q' (started_of y)
       also = subst (λ (k : Lists). Leaves a.said l p q p' q' (y.0, k)) (h ∙ ap lists_of next_is)
-
--- what the contract of a start says
-abbrev pub Started : Reply × Lists → List Float → List Float → List Float → List Float → Reply × Record → Type 0
-Started o p' q' p q y = record { outcome : o ≡ started_of y; said_point : p' ≡ point_after (started_of y) p; said_slopes : q' ≡ slopes_after (started_of y) q }
-
--- and one that is the start z
-pub start_as : {o : Reply × Lists} {p' q' : List Float} (p q : List Float) (y z : Reply × Record) → y ≡ z → Started o p' q' p q y → Started o p' q' p q z
-start_as {o} {p'} {q'} p q y z e = subst (Started o p' q' p q) e

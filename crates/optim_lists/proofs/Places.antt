@@ -1,17 +1,18 @@
--- A list is what stands at its places, and a loop that sets each place has made it. Assumes nothing.
-use Prim.Native.Nat.{ℕ, zero, suc, ◌+◌, ◌≤◌, ◌<◌}
-use mathlib.Core.Path.{◌≡◌, refl, sym, ap, ◌∙◌}
-use mathlib.Core.List.{List, [], ◌∷◌, ◌++◌, map, append-nil}
-use native.Mathlib.Nat.{le_refl}
+-- A list is what stands at its places. Assumes nothing.
+use Prim.Native.Nat.{ℕ, zero, suc, ◌+◌, ◌<◌}
+use mathlib.Core.Path.{◌≡◌, refl, sym, ap, subst, ◌∙◌}
+use mathlib.Core.List.{List, [], ◌∷◌, ◌++◌, map}
 use native.Mathlib.Omega.{arith}
-use lib.ListN.{length, get_or, set, drop, drop_of_length-le}
-use lib.Seq.{set_at, drop-cons, append_snoc}
+use denote.Param.Members.{Mut, Called}
+use lib.ListN.{length, get_or}
 use lib.Ieee.{Float}
-use Rattle.vector.specs.Loops.{fold, upto, at}
-use Rattle.vector.proofs.Loops.{Made, start, carried, done, length_upto}
+use Rattle.std.specs.Array.{IsFromFnResult, IsFromFnResultFrom}
+use Rattle.std.proofs.lemmas.List.{same_lists}
+use Rattle.vector.specs.Loops.{upto}
+use Rattle.vector.proofs.Loops.{length_upto}
 use Rattle.quasinewton_limited.specs.declared.Pair.{Pair}
 use Rattle.neldermead_vertices.specs.declared.Vertex.{Vertex}
-use Rattle.optim_lists.specs.Lists.{vertices_from, pairs_from}
+use Rattle.optim_lists.specs.Lists.{vertex_of, pair_of, vertices_from, pairs_from}
 
 -- ---- read place by place
 
@@ -34,13 +35,6 @@ map_same (x ∷ l) = ap (λ k. x ∷ k) (map_same l)
 pub read_places : {A : Type 0} (z : A) (l : List A) (n : ℕ) → length l ≡ n → upto (λ i. get_or l i z) n ≡ l
 read_places z l n e = map_places (λ x. x) z l n e ∙ map_same l
 
--- the vertex and the pair of one place
-abbrev pub vertex_of : List (List Float) → List Float → ℕ → Vertex
-vertex_of xs fs i = record { x = get_or xs i []; f = at fs i }
-
-abbrev pub pair_of : List (List Float) → List (List Float) → List Float → ℕ → Pair
-pair_of ss ys rs i = record { s = get_or ss i []; y = get_or ys i []; rho = at rs i }
-
 vertices_all : (xs : List (List Float)) (fs : List Float) → length xs ≡ length fs → upto (vertex_of xs fs) (length xs) ≡ vertices_from xs fs
 unfolding vertices_from
 vertices_all [] fs e = refl
@@ -62,31 +56,24 @@ vertices_places xs fs d e = ap (upto (vertex_of xs fs)) (sym d) ∙ vertices_all
 pub pairs_places : (ss ys : List (List Float)) (rs : List Float) → length ss ≡ 16 → length ys ≡ 16 → length rs ≡ 16 → upto (pair_of ss ys rs) 16 ≡ pairs_from ss ys rs
 pairs_places ss ys rs d e f = ap (upto (pair_of ss ys rs)) (sym d) ∙ pairs_all ss ys rs (d ∙ sym e) (e ∙ sym f)
 
--- ---- set place by place
+-- ---- arrays made place by place
 
-abbrev set_of : {A : Type 0} → (ℕ → A) → List A → ℕ → List A
-set_of g z = fold (λ l i. set l i (g i)) z
+upto_places : {A : Type 0} (g : ℕ → A) (n i : ℕ) (d : A) → i < n → get_or (upto g n) i d ≡ g i
+upto_places g zero i d h = absurd (omega (arith, h))
+upto_places g (suc n) zero d h = ap (λ l. get_or l 0 d) (upto_front g n)
+upto_places g (suc n) (suc i) d h = ap (λ l. get_or l (suc i) d) (upto_front g n) ∙ upto_places (λ j. g (suc j)) n i d (omega (arith, h))
 
-set_front : {A : Type 0} (g : ℕ → A) (z : List A) (k : ℕ) → k ≤ length z → set_of g z k ≡ upto g k ++ drop k z
-set_front g z zero h = refl
-set_front g z (suc k) h =
-    ap (λ l. set l k (g k)) (set_front g z k (omega (arith, h)) ∙ ap (λ l. upto g k ++ l) (drop-cons z k (g k) (omega (arith, h))))
-    ∙ set_at (upto g k) (get_or z k (g k)) (drop (suc k) z) (g k) k (length_upto g k)
-    ∙ sym (append_snoc (upto g k) (g k) (drop (suc k) z))
+-- g 0, g 1, .., as `from_fn` has them of a closure that a call leaves as it was
+module _ {F A : Type 0} {k : Mut F (ℕ × Unit {0}) A} {c : F} (g : ℕ → A) (h : (q : F) (i : ℕ) (y : A) → Called k c (i, tt) y q → (y ≡ g i) × (q ≡ c)) where
+  turn : (p q : F) (i : ℕ) (y : A) → p ≡ c → Called k p (i, tt) y q → (y ≡ g i) × (q ≡ c)
+  turn p q i y e = subst (λ (a : F). Called k a (i, tt) y q → (y ≡ g i) × (q ≡ c)) (sym e) (h q i y)
 
-set_places : {A : Type 0} (g : ℕ → A) (z : List A) (n : ℕ) → length z ≡ n → set_of g z n ≡ upto g n
-set_places g z n e = set_front g z n (omega (arith, e)) ∙ ap (λ l. upto g n ++ l) (drop_of_length-le z {i = n} (omega (arith, e))) ∙ append-nil (upto g n)
+  turns : (r : List A) (p : F) (i n : ℕ) → p ≡ c → IsFromFnResultFrom k p r i n → (j l : ℕ) (d : A) → l ≡ i + j → j < n → get_or r l d ≡ g l
+  turns r p i zero e t j l d w b = absurd (omega (arith, b))
+  turns r p i (suc n) e t zero l d w b = subst (λ (a : ℕ). get_or r a d ≡ g a) (omega (arith, w)) (t.2.1 d ∙ (turn p t.0 i t.1 e t.3).0)
+  turns r p i (suc n) e t (suc j) l d w b = turns r t.0 (i + 1) n (turn p t.0 i t.1 e t.3).1 t.4 j l d (omega (arith, w)) (omega (arith, b))
 
--- a loop over z has set the first i of its n places, each to what g has for it
-pub record Setting {A : Type 0} (n : ℕ) (g : ℕ → A) (z s : List A) (i : ℕ) : Type 0 where
-  pub long : length z ≡ n
-  pub made : Made n (set_of g z) n s i
-
-pub set_starts : {A : Type 0} {n : ℕ} {g : ℕ → A} {z : List A} → length z ≡ n → Setting n g z z 0
-set_starts {n = n} e = record { long = e; made = start (le_refl n) refl }
-
-pub set_goes : {A : Type 0} {n : ℕ} {g : ℕ → A} {z s : List A} {x : A} {i : ℕ} → Setting n g z s i → i < n → x ≡ g i → Setting n g z (set s i x) (i + 1)
-set_goes {s = s} {i = i} m h e = record { long = m.long; made = carried m.made h (ap (set s i) e) }
-
-pub set_ends : {A : Type 0} {n : ℕ} {g : ℕ → A} {z s : List A} {i : ℕ} → Setting n g z s i → n ≤ i → s ≡ upto g n
-set_ends {n = n} {g = g} {z = z} m h = done m.made h ∙ set_places g z n m.long
+  pub made : {r : List A} (n : ℕ) → IsFromFnResult k c r n → r ≡ upto g n
+  made {r = r} n m =
+      same_lists r (upto g n) (m.long ∙ sym (length_upto g n))
+      (λ i d b. turns r c 0 n refl m.each i i d (omega arith) (omega (arith, m.long, b)) ∙ sym (upto_places g n i d (omega (arith, m.long, b))))

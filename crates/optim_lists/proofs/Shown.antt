@@ -45,7 +45,7 @@ said_shown (Ask k κ) n l p t = refl
 said_shown (Fitted s) n l p t = refl
 said_shown (Searched s) n l p t = (refl, refl)
 said_shown Differenced n l p t = refl
-said_shown (Refused k d) n l p t = tt
+said_shown (Refused k) n l p t = tt
 
 stands_shown : (l : Lists) → Shows ((standing_of (record_of l)).0, l)
 unfolding reply_with

@@ -1,6 +1,7 @@
 -- What a call makes of the lists that it is lent, all places of each: the record's, and the two beside it that hold the point of the reply and a bare job's gradient. Definitions only.
 use Rattle.std.specs.Prelude.{ℕ, cond, List, eqb, Float}
-use Rattle.protocol.specs.Protocol.{Outcome, fitted, searched, differenced, Reply, ask, ended, refused}
+use Rattle.protocol.specs.declared.Said.{Said}
+use Rattle.protocol.specs.Protocol.{Outcome, fitted, searched, differenced, Reply, ask, ended, refused, reply_of}
 use Rattle.optim_record.specs.declared.Record.{Record}
 use Rattle.optim_reply.specs.Spoken.{spoken_of}
 use Rattle.optim.specs.Answer.{answer_of}
@@ -47,3 +48,7 @@ point_after a p = point_with a.0 (spoken_of (record_of a.1)).x p
 
 abbrev pub slopes_after : Reply × Lists → List Float → List Float
 slopes_after a s = slopes_with a.0 (spoken_of (record_of a.1)).g s
+
+-- what the code says over the lists that it leaves, with p in `point` and s in `slopes`
+abbrev pub said_over : Said → Lists → List Float → List Float → Reply × Lists
+said_over said l p s = (reply_of said (mark l.marks place.n) p s, l)

@@ -80,6 +80,13 @@ mark ms i = get_or ms i 0
 abbrev pub flag : List ℕ → ℕ → Bool
 flag ms i = not (eqb (mark ms i) 0)
 
+-- the vertex and the pair of one place
+abbrev pub vertex_of : List (List Float) → List Float → ℕ → Vertex
+vertex_of xs fs i = record { x = get_or xs i []; f = at fs i }
+
+abbrev pub pair_of : List (List Float) → List (List Float) → List Float → ℕ → Pair
+pair_of ss ys rs i = record { s = get_or ss i []; y = get_or ys i []; rho = at rs i }
+
 -- "each with its sixteen coordinates .. and its value": point and value of one place are a vertex
 unfoldable pub vertices_from : List (List Float) → List Float → List Vertex
 vertices_from [] fs = []
@@ -189,23 +196,49 @@ model_from ms ws h p =
       pairs = record { count = mark ms place.pair_count; gamma = at ws place.gamma; pairs = p };
     }
 
+-- and from all of them
+abbrev pub differences_in : Lists → Differences
+differences_in l = differences_from l.marks l.numbers l.diff_x l.diff_g
+
+abbrev pub simplex_in : Lists → Simplex
+simplex_in l = simplex_from l.marks l.numbers l.simplex_x l.best_x l.centroid l.reflected_x (vertices_from l.points l.values)
+
+abbrev pub line_in : Lists → Line
+line_in l = line_from l.numbers l.line_x l.line_g l.line_d
+
+abbrev pub best_in : Lists → Evaluation
+best_in l = best_from l.numbers l.trial_x l.trial_g
+
+abbrev pub search_differences_in : Lists → Differences
+search_differences_in l = search_differences_from l.marks l.numbers l.search_diff_x l.search_diff_g
+
+abbrev pub search_in : Lists → Search
+search_in l = search_from l.marks l.numbers (low_from l.numbers) (high_from l.numbers) (best_in l) (search_differences_in l)
+
+abbrev pub first_differences_in : Lists → Differences
+first_differences_in l = first_differences_from l.marks l.numbers l.first_diff_x l.first_diff_g
+
+abbrev pub descent_in : Lists → Descent
+descent_in l = descent_from l.marks (line_in l) (search_in l) (first_differences_in l)
+
+abbrev pub model_in : Lists → Model
+model_in l = model_from l.marks l.numbers l.hessian (pairs_from l.steps l.changes l.factors)
+
 unfoldable pub record_of : Lists → Record
 record_of l =
     let ms = l.marks in
-    let ws = l.numbers in
-    let search = search_from ms ws (low_from ws) (high_from ws) (best_from ws l.trial_x l.trial_g) (search_differences_from ms ws l.search_diff_x l.search_diff_g) in
     record {
       accepted = mark ms place.accepted;
       job = mark ms place.job;
       n = mark ms place.n;
       counts = record { fevals = mark ms place.fevals; gevals = mark ms place.gevals };
       limits = record { iter = mark ms place.iter_limit; fevals = mark ms place.fevals_limit };
-      options = options_from ms ws;
-      gradient = gradient_options_from ms ws;
-      diff = differences_from ms ws l.diff_x l.diff_g;
-      simplex = simplex_from ms ws l.simplex_x l.best_x l.centroid l.reflected_x (vertices_from l.points l.values);
-      descent = descent_from ms (line_from ws l.line_x l.line_g l.line_d) search (first_differences_from ms ws l.first_diff_x l.first_diff_g);
-      model = model_from ms ws l.hessian (pairs_from l.steps l.changes l.factors);
+      options = options_from ms l.numbers;
+      gradient = gradient_options_from ms l.numbers;
+      diff = differences_in l;
+      simplex = simplex_in l;
+      descent = descent_in l;
+      model = model_in l;
     }
 
 -- ---- the one form of a record

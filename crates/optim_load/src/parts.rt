@@ -1,12 +1,14 @@
-// The parts of a record, each from the marks, the numbers and its own arrays, by the places of the layout.
-ghost use Rattle.std.specs.Prelude.{◌≡◌};
-ghost use Rattle.optim_lists.specs.Lists.{vertices_from, pairs_from, options_from, gradient_options_from, differences_from, simplex_from, line_from, low_from, high_from, best_from, search_differences_from, search_from, first_differences_from, descent_from, model_from};
+// The parts of a record, each read off the lists by the places of the layout.
+ghost use Rattle.std.specs.Prelude.{◌≡◌, ◌<◌};
+ghost use Rattle.optim_lists.specs.Lists.{vertex_of, pair_of, vertices_from, pairs_from, options_from, gradient_options_from, differences_in, simplex_in, line_in, low_from, high_from, best_in, search_differences_in, search_in, first_differences_in, descent_in, model_in};
+ghost use Rattle.optim_lists.specs.Lent.{lists_in};
 
 use linesearch::Search;
 use linesearch_trials::{Evaluation, Line, Trial};
 use neldermead::Simplex;
 use neldermead_vertices::Vertex;
 use objective::Differences;
+use optim_lists::Lent;
 use protocol::{GradientOptions, SimplexOptions, WolfeOptions};
 use quasinewton_dense::Dense;
 use quasinewton_limited::{Limited, Pair};
@@ -14,47 +16,40 @@ use quasinewton_model::Model;
 use quasinewton_record::Descent;
 
 // Points and values as vertices.
-pub fn vertices(xs: [[f64; 16]; 17], fs: [f64; 17]) -> [Vertex; 17]
+fn vertices(xs: [[f64; 16]; 17], fs: [f64; 17]) -> [Vertex; 17]
     ensures { result ≡ vertices_from xs fs }
 {
-    let zeros = [0.0; 16];
-    let none = Vertex { x: zeros, f: 0.0 };
-    let mut v = [none; 17];
-    let mut i: usize = 0;
-    while i < 17 {
-        let x = xs[i];
-        let f = fs[i];
-        v[i] = Vertex { x, f };
-        i += 1;
-    }
-    v
+    std::array::from_fn(
+        |i: usize| -> Vertex
+            requires { i < 17 }
+            ensures { result ≡ vertex_of xs fs i }
+        { Vertex { x: xs[i], f: fs[i] } },
+    )
 }
 
 // Steps, changes and factors as pairs.
-pub fn pairs(ss: [[f64; 16]; 16], ys: [[f64; 16]; 16], rs: [f64; 16]) -> [Pair; 16]
+fn pairs(ss: [[f64; 16]; 16], ys: [[f64; 16]; 16], rs: [f64; 16]) -> [Pair; 16]
     ensures { result ≡ pairs_from ss ys rs }
 {
-    let zeros = [0.0; 16];
-    let none = Pair {
-        s: zeros,
-        y: zeros,
-        rho: 0.0,
-    };
-    let mut p = [none; 16];
-    let mut i: usize = 0;
-    while i < 16 {
-        let s = ss[i];
-        let y = ys[i];
-        let rho = rs[i];
-        p[i] = Pair { s, y, rho };
-        i += 1;
-    }
-    p
+    std::array::from_fn(
+        |i: usize| -> Pair
+            requires { i < 16 }
+            ensures { result ≡ pair_of ss ys rs i }
+        {
+            Pair {
+                s: ss[i],
+                y: ys[i],
+                rho: rs[i],
+            }
+        },
+    )
 }
 
-pub fn options(m: &[u64; 36], w: &[f64; 28]) -> SimplexOptions
-    ensures { result ≡ options_from m.now w.now }
+pub fn options(l: &Lent<'_>) -> SimplexOptions
+    ensures { result ≡ options_from l.now.m.now l.now.w.now }
 {
+    let m = &*l.m;
+    let w = &*l.w;
     SimplexOptions {
         xtol: w[0],
         ftol: w[1],
@@ -64,9 +59,11 @@ pub fn options(m: &[u64; 36], w: &[f64; 28]) -> SimplexOptions
     }
 }
 
-pub fn gradient_options(m: &[u64; 36], w: &[f64; 28]) -> GradientOptions
-    ensures { result ≡ gradient_options_from m.now w.now }
+pub fn gradient_options(l: &Lent<'_>) -> GradientOptions
+    ensures { result ≡ gradient_options_from l.now.m.now l.now.w.now }
 {
+    let m = &*l.m;
+    let w = &*l.w;
     let wolfe = WolfeOptions {
         c1: w[6],
         c2: w[7],
@@ -83,9 +80,13 @@ pub fn gradient_options(m: &[u64; 36], w: &[f64; 28]) -> GradientOptions
     }
 }
 
-pub fn differences(m: &[u64; 36], w: &[f64; 28], x: [f64; 16], g: [f64; 16]) -> Differences
-    ensures { result ≡ differences_from m.now w.now x g }
+pub fn differences(l: &Lent<'_>) -> Differences
+    ensures { result ≡ differences_in (lists_in l.now) }
 {
+    let m = &*l.m;
+    let w = &*l.w;
+    let x = *l.dx;
+    let g = *l.dg;
     Differences {
         at: m[10] as usize,
         forward: m[27] != 0,
@@ -95,22 +96,26 @@ pub fn differences(m: &[u64; 36], w: &[f64; 28], x: [f64; 16], g: [f64; 16]) -> 
     }
 }
 
-pub fn simplex(
-    m: &[u64; 36],
-    w: &[f64; 28],
-    x: [f64; 16],
-    best: [f64; 16],
-    cen: [f64; 16],
-    reflected: [f64; 16],
-    v: [Vertex; 17],
-) -> Simplex
-    ensures { result ≡ simplex_from m.now w.now x best cen reflected v }
+pub fn simplex(l: &Lent<'_>) -> Simplex
+    ensures { result ≡ simplex_in (lists_in l.now) }
 {
-    let best = Vertex { x: best, f: w[10] };
+    let m = &*l.m;
+    let w = &*l.w;
+    let x = *l.sx;
+    let at_best = *l.best;
+    let best = Vertex {
+        x: at_best,
+        f: w[10],
+    };
+    let cen = *l.centroid;
+    let at_reflected = *l.reflected;
     let refl = Vertex {
-        x: reflected,
+        x: at_reflected,
         f: w[11],
     };
+    let xs = *l.points;
+    let fs = *l.values;
+    let v = vertices(xs, fs);
     Simplex {
         phase: m[11],
         at: m[12] as usize,
@@ -124,9 +129,13 @@ pub fn simplex(
     }
 }
 
-pub fn line(w: &[f64; 28], x: [f64; 16], g: [f64; 16], d: [f64; 16]) -> Line
-    ensures { result ≡ line_from w.now x g d }
+fn line(l: &Lent<'_>) -> Line
+    ensures { result ≡ line_in (lists_in l.now) }
 {
+    let w = &*l.w;
+    let x = *l.lx;
+    let g = *l.lg;
+    let d = *l.ld;
     Line {
         x,
         g,
@@ -136,9 +145,10 @@ pub fn line(w: &[f64; 28], x: [f64; 16], g: [f64; 16], d: [f64; 16]) -> Line
     }
 }
 
-pub fn low(w: &[f64; 28]) -> Trial
-    ensures { result ≡ low_from w.now }
+fn low(l: &Lent<'_>) -> Trial
+    ensures { result ≡ low_from l.now.w.now }
 {
+    let w = &*l.w;
     Trial {
         step: w[14],
         value: w[15],
@@ -146,9 +156,10 @@ pub fn low(w: &[f64; 28]) -> Trial
     }
 }
 
-pub fn high(w: &[f64; 28]) -> Trial
-    ensures { result ≡ high_from w.now }
+fn high(l: &Lent<'_>) -> Trial
+    ensures { result ≡ high_from l.now.w.now }
 {
+    let w = &*l.w;
     Trial {
         step: w[17],
         value: w[18],
@@ -156,9 +167,12 @@ pub fn high(w: &[f64; 28]) -> Trial
     }
 }
 
-pub fn best(w: &[f64; 28], x: [f64; 16], g: [f64; 16]) -> Evaluation
-    ensures { result ≡ best_from w.now x g }
+fn best(l: &Lent<'_>) -> Evaluation
+    ensures { result ≡ best_in (lists_in l.now) }
 {
+    let w = &*l.w;
+    let x = *l.tx;
+    let g = *l.tg;
     let trial = Trial {
         step: w[22],
         value: w[23],
@@ -167,9 +181,13 @@ pub fn best(w: &[f64; 28], x: [f64; 16], g: [f64; 16]) -> Evaluation
     Evaluation { trial, x, g }
 }
 
-pub fn search_differences(m: &[u64; 36], w: &[f64; 28], x: [f64; 16], g: [f64; 16]) -> Differences
-    ensures { result ≡ search_differences_from m.now w.now x g }
+fn search_differences(l: &Lent<'_>) -> Differences
+    ensures { result ≡ search_differences_in (lists_in l.now) }
 {
+    let m = &*l.m;
+    let w = &*l.w;
+    let x = *l.ex;
+    let g = *l.eg;
     Differences {
         at: m[21] as usize,
         forward: m[32] != 0,
@@ -179,16 +197,15 @@ pub fn search_differences(m: &[u64; 36], w: &[f64; 28], x: [f64; 16], g: [f64; 1
     }
 }
 
-pub fn search(
-    m: &[u64; 36],
-    w: &[f64; 28],
-    lo: Trial,
-    hi: Trial,
-    best: Evaluation,
-    diff: Differences,
-) -> Search
-    ensures { result ≡ search_from m.now w.now lo hi best diff }
+fn search(l: &Lent<'_>) -> Search
+    ensures { result ≡ search_in (lists_in l.now) }
 {
+    let m = &*l.m;
+    let w = &*l.w;
+    let lo = low(l);
+    let hi = high(l);
+    let kept = best(l);
+    let diff = search_differences(l);
     Search {
         phase: m[19],
         zooming: m[29] != 0,
@@ -199,14 +216,18 @@ pub fn search(
         step: w[20],
         value: w[21],
         kept: m[31] != 0,
-        best,
+        best: kept,
         diff,
     }
 }
 
-pub fn first_differences(m: &[u64; 36], w: &[f64; 28], x: [f64; 16], g: [f64; 16]) -> Differences
-    ensures { result ≡ first_differences_from m.now w.now x g }
+fn first_differences(l: &Lent<'_>) -> Differences
+    ensures { result ≡ first_differences_in (lists_in l.now) }
 {
+    let m = &*l.m;
+    let w = &*l.w;
+    let x = *l.ix;
+    let g = *l.ig;
     Differences {
         at: m[22] as usize,
         forward: m[33] != 0,
@@ -216,32 +237,43 @@ pub fn first_differences(m: &[u64; 36], w: &[f64; 28], x: [f64; 16], g: [f64; 16
     }
 }
 
-pub fn descent(m: &[u64; 36], line: Line, search: Search, diff: Differences) -> Descent
-    ensures { result ≡ descent_from m.now line search diff }
+pub fn descent(l: &Lent<'_>) -> Descent
+    ensures { result ≡ descent_in (lists_in l.now) }
 {
+    let m = &*l.m;
+    let from = line(l);
+    let search = search(l);
+    let diff = first_differences(l);
     Descent {
         phase: m[15],
         number: m[16],
         detail: m[17],
         first: m[28] != 0,
         rounds: m[18],
-        line,
+        line: from,
         search,
         diff,
     }
 }
 
-pub fn model(m: &[u64; 36], w: &[f64; 28], h: [f64; 256], p: [Pair; 16]) -> Model
-    ensures { result ≡ model_from m.now w.now h p }
+pub fn model(l: &Lent<'_>) -> Model
+    ensures { result ≡ model_in (lists_in l.now) }
 {
+    let m = &*l.m;
+    let w = &*l.w;
+    let h = *l.h;
     let dense = Dense {
         fresh: m[35] != 0,
         h,
     };
+    let ss = *l.steps;
+    let ys = *l.changes;
+    let rs = *l.factors;
+    let held = pairs(ss, ys, rs);
     let pairs = Limited {
         count: m[24] as usize,
         gamma: w[27],
-        pairs: p,
+        pairs: held,
     };
     Model {
         limited: m[34] != 0,

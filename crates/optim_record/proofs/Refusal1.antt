@@ -8,28 +8,30 @@ use mathlib.Core.List.{[], ◌∷◌}
 use lib.Dec.{eqb, leb}
 use borrow.Author.Tests.{leb-true, eqb-true, le-leb, eq-eqb, ne_eqb}
 use Rattle.optim_record.specs.declared.Record.{Record}
-use Rattle.optim_record.specs.Record.{gradient_job_of, valid_simplex_of, valid_search_of, valid_descent_of, valid_of}
+use Rattle.optim_record.specs.Record.{gradient_job_of, valid_simplex_of, valid_search_of, valid_descent_of, valid_part_of, valid_of}
 use Rattle.protocol.specs.Protocol.{simplex_mark, bfgs_mark, lbfgs_mark, search_mark, differences_mark}
 use Rattle.optim_record.specs.Refusal1.{Descends, Searches, OneOf, InRange, RefusesExactly}
-use Rattle.optim_record.proofs.Refusal1Parts.{SimplexPart, SearchPart, BarePart, DescentPart, Common, by_job, simplex_part, bare_part, descent_part, whole}
+use Rattle.optim_record.proofs.Refusal1Parts.{SimplexPart, SearchPart, BarePart, DescentPart, Common, simplex_part, bare_part, descent_part, whole}
 
 -- ---- by the job
 
 module _ (r : Record) where
-  at_simplex : r.job ≡ simplex_mark → by_job r ≡ valid_simplex_of r
+  at_simplex : r.job ≡ simplex_mark → valid_part_of r ≡ valid_simplex_of r
+  unfolding valid_part_of
   at_simplex j = rw (eq-eqb r.job simplex_mark j)
 
-  at_search : r.job ≡ search_mark → by_job r ≡ valid_search_of r
+  at_search : r.job ≡ search_mark → valid_part_of r ≡ valid_search_of r
+  unfolding valid_part_of
   at_search j = rw (ne_eqb r.job simplex_mark (λ e. omega arith), eq-eqb r.job search_mark j)
 
-  at_descent : Descends r → by_job r ≡ valid_descent_of r
-  unfolding gradient_job_of
+  at_descent : Descends r → valid_part_of r ≡ valid_descent_of r
+  unfolding valid_part_of gradient_job_of
   at_descent (inl j) = rw (ne_eqb r.job simplex_mark (λ e. omega arith), ne_eqb r.job search_mark (λ e. omega arith), eq-eqb r.job bfgs_mark j)
   at_descent (inr j) =
       rw (ne_eqb r.job simplex_mark (λ e. omega arith), ne_eqb r.job search_mark (λ e. omega arith), ne_eqb r.job bfgs_mark (λ e. omega arith), eq-eqb r.job lbfgs_mark j)
 
-  at_differences : r.job ≡ differences_mark → by_job r ≡ leb r.diff.at r.n
-  unfolding gradient_job_of
+  at_differences : r.job ≡ differences_mark → valid_part_of r ≡ leb r.diff.at r.n
+  unfolding valid_part_of gradient_job_of
   at_differences j =
       rw (
         ne_eqb r.job simplex_mark (λ e. omega arith),
@@ -42,8 +44,8 @@ module _ (r : Record) where
   abbrev KnownJob : Type 0
   KnownJob = OneOf r.job (simplex_mark ∷ bfgs_mark ∷ lbfgs_mark ∷ search_mark ∷ differences_mark ∷ [])
 
-  job_known : by_job r ≡ true → KnownJob
-  unfolding gradient_job_of
+  job_known : valid_part_of r ≡ true → KnownJob
+  unfolding valid_part_of gradient_job_of
   job_known = go (eqb r.job simplex_mark) refl (eqb r.job search_mark) refl (eqb r.job bfgs_mark) refl (eqb r.job lbfgs_mark) refl (eqb r.job differences_mark) refl
     where
       go : (a : Bool) → eqb r.job simplex_mark ≡ a → (b : Bool) → eqb r.job search_mark ≡ b → (c : Bool) → eqb r.job bfgs_mark ≡ c → (d : Bool) → eqb r.job lbfgs_mark ≡ d
@@ -72,7 +74,7 @@ module _ (r : Record) where
 
 -- ---- both ways
 
-module _ (r : Record) (e : by_job r ≡ true) where
+module _ (r : Record) (e : valid_part_of r ≡ true) where
   of_simplex : r.job ≡ simplex_mark → SimplexPart r
   of_simplex j = (simplex_part r).0 (sym (at_simplex r j) ∙ e)
 

@@ -9,7 +9,7 @@ use lib.Dec.{eqb, ltb, leb}
 use borrow.Author.Tests.{ltb-false, leb-true, eqb-true, eqb-false, not-true, not-false, le-ltb, le-leb, eq-eqb, ne_eqb}
 use Rattle.quasinewton_record.specs.declared.Descent.{Descent}
 use Rattle.optim_record.specs.declared.Record.{Record}
-use Rattle.optim_record.specs.Record.{no_limit, gradient_job_of, valid_simplex_of, valid_search_part_of, valid_search_of, known_refusal_of, valid_ending_of, valid_options_of, valid_model_of, valid_descent_of, valid_of}
+use Rattle.optim_record.specs.Record.{no_limit, gradient_job_of, valid_simplex_of, valid_search_part_of, valid_search_of, known_refusal_of, valid_ending_of, valid_options_of, valid_model_of, valid_descent_of, valid_part_of, valid_of}
 use Rattle.protocol.specs.Protocol.{simplex_mark, search_mark, differences_mark}
 use Rattle.optim_record.specs.Refusal1.{OneOf, EndingMark}
 
@@ -275,20 +275,13 @@ pub record Common (r : Record) : Type 0 where
   pub fevals : r.counts.fevals ≤ 40000000000
   pub gevals : r.counts.gevals ≤ 40000000000
 
--- what a job's own tests come to
-abbrev pub by_job : Record → Bool
-by_job r =
-    cond (eqb r.job simplex_mark) (valid_simplex_of r)
-    (cond (eqb r.job search_mark) (valid_search_of r)
-    (cond (gradient_job_of r.job) (valid_descent_of r) (cond (eqb r.job differences_mark) (leb r.diff.at r.n) false)))
-
-pub whole : (r : Record) → (valid_of r ≡ true) ↔ (Common r × (by_job r ≡ true))
+pub whole : (r : Record) → (valid_of r ≡ true) ↔ (Common r × (valid_part_of r ≡ true))
 unfolding valid_of
 whole r =
     let t =
     both _ _ (at_most r.n 16)
     (both _ _ (at_most r.accepted 40000000000)
-    (both _ _ (at_most r.counts.fevals 40000000000) (both {B = by_job r ≡ true} _ _ (at_most r.counts.gevals 40000000000) (λ e. e, λ e. e)))) in (
+    (both _ _ (at_most r.counts.fevals 40000000000) (both {B = valid_part_of r ≡ true} _ _ (at_most r.counts.gevals 40000000000) (λ e. e, λ e. e)))) in (
       λ e. let (n, (a, (f, (g, j)))) = t.0 e in (record { few = n; accepted = a; fevals = f; gevals = g }, j),
       λ p. t.1 (p.0.few, (p.0.accepted, (p.0.fevals, (p.0.gevals, p.1)))),
     )

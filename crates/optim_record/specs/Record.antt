@@ -162,6 +162,14 @@ valid_descent_of r =
     (cond (not (valid_options_of r)) false
     (cond (not (valid_model_of r.model)) false (valid_search_part_of r))))))))
 
+-- of the part that the job uses
+unfoldable pub valid_part_of : Record → Bool
+valid_part_of r =
+    cond (eqb r.job simplex_mark) (valid_simplex_of r)
+    (cond (eqb r.job search_mark) (valid_search_of r)
+    (cond (gradient_job_of r.job) (valid_descent_of r)
+    (cond (eqb r.job differences_mark) (leb r.diff.at r.n) false)))
+
 -- Refusal 1, for the parts that are there: "The record has n above 16 (or 0, other than for differences), a position above n, .. an option past 2's limits, an unknown mark
 -- or any count above 4·10^10." A part that the job does not use is not looked at, but memory and pairs of bfgs are.
 unfoldable pub valid_of : Record → Bool
@@ -170,11 +178,7 @@ valid_of r =
     cond (ltb 16 r.n) false
     (cond (ltb most r.accepted) false
     (cond (ltb most r.counts.fevals) false
-    (cond (ltb most r.counts.gevals) false
-    (cond (eqb r.job simplex_mark) (valid_simplex_of r)
-    (cond (eqb r.job search_mark) (valid_search_of r)
-    (cond (gradient_job_of r.job) (valid_descent_of r)
-    (cond (eqb r.job differences_mark) (leb r.diff.at r.n) false)))))))
+    (cond (ltb most r.counts.gevals) false (valid_part_of r))))
 
 -- differences: none of the jobs that are asked for first
 pub record Other (r : Record) : Type 0 where

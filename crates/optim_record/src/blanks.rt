@@ -7,13 +7,13 @@ use neldermead::Simplex;
 use neldermead_vertices::Vertex;
 use protocol::{GradientOptions, SimplexOptions, WolfeOptions};
 
-// The simplex part of a record that does not use it.
+// The simplex part of a record that does not use it: written out, since no derive says that an array is of zeros.
+#[tactic(auto, unfolding(crate::specs::Record::idle_of))]
 pub fn idle() -> Simplex
     ensures { result ≡ idle_of }
 {
     let x = [0.0; 16];
     let none = Vertex { x, f: 0.0 };
-    let v = [none; 17];
     Simplex {
         phase: 0,
         at: 0,
@@ -23,72 +23,51 @@ pub fn idle() -> Simplex
         best: none,
         cen: x,
         refl: none,
-        v,
+        v: [none; 17],
     }
 }
 
 pub fn no_options() -> SimplexOptions
     ensures { result ≡ no_options }
 {
-    SimplexOptions {
-        xtol: 0.0,
-        ftol: 0.0,
-        step: 0.0,
-        restarts: 0,
-        adaptive: false,
-    }
+    SimplexOptions::default()
 }
 
 // The options that a search's record keeps.
+#[tactic(auto, unfolding(crate::specs::Record::wolfe_options_of))]
 pub fn wolfe_options(wolfe: WolfeOptions, gradients: bool) -> GradientOptions
     ensures { result ≡ wolfe_options_of wolfe gradients }
 {
     GradientOptions {
-        gradtol: 0.0,
-        ftol: 0.0,
-        xtol: 0.0,
         wolfe,
-        memory: 0,
         gradients,
+        ..GradientOptions::default()
     }
 }
 
+#[tactic(auto, unfolding(crate::specs::Record::wolfe_options_of))]
 pub fn no_gradient_options() -> GradientOptions
     ensures { result ≡ no_gradient_options }
 {
-    let wolfe = WolfeOptions {
-        c1: 0.0,
-        c2: 0.0,
-        stepmax: 0.0,
-        evals: 0,
-    };
-    wolfe_options(wolfe, false)
+    GradientOptions::default()
 }
 
 // The record of a refused start: zeros, with a mark that no job has, and the first phase of a search.
+#[tactic(auto, unfolding(crate::specs::Record::blank_of))]
 pub fn blank() -> Record
     ensures { result ≡ blank_of }
 {
-    let diff = objective::begun([0.0; 16]);
-    let simplex = idle();
-    let options = no_options();
-    let gradient = no_gradient_options();
-    let descent = quasinewton::idle();
-    let model = quasinewton_model::blank();
     Record {
         accepted: 0,
         job: 0,
         n: 0,
-        counts: Counts {
-            fevals: 0,
-            gevals: 0,
-        },
-        limits: Limits { iter: 0, fevals: 0 },
-        options,
-        gradient,
-        diff,
-        simplex,
-        descent,
-        model,
+        counts: Counts::default(),
+        limits: Limits::default(),
+        options: no_options(),
+        gradient: no_gradient_options(),
+        diff: objective::Differences::begun([0.0; 16]),
+        simplex: idle(),
+        descent: quasinewton::Descent::idle(),
+        model: quasinewton_model::Model::blank(),
     }
 }

@@ -4,7 +4,7 @@
 mod blanks;
 
 ghost use Rattle.std.specs.Prelude.{◌≡◌};
-ghost use Rattle.optim_record.specs.Record.{gradient_job_of, valid_simplex_of, valid_search_part_of, valid_search_of, known_refusal_of, valid_ending_of, valid_options_of, valid_model_of, valid_descent_of, valid_of};
+ghost use Rattle.optim_record.specs.Record.{gradient_job_of, valid_simplex_of, valid_search_part_of, valid_search_of, known_refusal_of, valid_ending_of, valid_options_of, valid_model_of, valid_descent_of, valid_part_of, valid_of};
 
 pub use blanks::{blank, idle, no_gradient_options, no_options, wolfe_options};
 use linesearch_moves::FAILED;
@@ -28,21 +28,22 @@ pub const MOST_EVALS: u64 = 1_000;
 pub const NO_LIMIT: u64 = 18_446_744_073_709_551_615;
 
 // Accepted V answers, and accepted G answers.
-#[derive(Clone, Copy)]
+#[derive(Clone, Copy, Default)]
 pub struct Counts {
     pub fevals: u64,
     pub gevals: u64,
 }
 
 // max_iter and max_fevals of a fit, an absent one as its default.
-#[derive(Clone, Copy)]
+#[derive(Clone, Copy, Default)]
 pub struct Limits {
     pub iter: u64,
     pub fevals: u64,
 }
 
 // All that the engine keeps between two calls. `accepted` is the number last accepted, 0 before the
-// first; the open question's is one more. A part that its job does not use is zero.
+// first; the open question's is one more. A part that its job does not use is zero. Marks, phases and flags
+// are plain: C hands back any number in them, which is taken and met with refusal 1.
 #[derive(Clone, Copy)]
 pub struct Record {
     pub accepted: u64,
@@ -68,219 +69,130 @@ pub struct Answered {
 }
 
 // Whether a job is bfgs or lbfgs.
+#[tactic(auto, unfolding(crate::specs::Record::gradient_job_of))]
 pub fn gradient_job(job: u64) -> bool
     ensures { result ≡ gradient_job_of job }
 {
-    if job == BFGS {
-        return true;
-    }
-    job == LBFGS
+    job == BFGS || job == LBFGS
 }
 
 // Whether a record of the job simplex is in range.
+#[tactic(auto, unfolding(crate::specs::Record::valid_simplex_of))]
 fn valid_simplex(r: Record) -> bool
     ensures { result ≡ valid_simplex_of r }
 {
     let s = r.simplex;
-    let limits = r.limits;
-    let o = r.options;
-    if r.n == 0 {
-        return false;
-    }
-    if r.n < s.at {
-        return false;
-    }
-    if s.phase == 0 {
-        return false;
-    }
-    if NOT_FINITE < s.phase {
-        return false;
-    }
-    if MOST < s.rounds {
-        return false;
-    }
-    if MOST < s.runs {
-        return false;
-    }
-    if MOST_ALLOWED < limits.iter {
-        return false;
-    }
-    if MOST_ALLOWED < limits.fevals {
-        return false;
-    }
-    o.restarts <= MOST_RESTARTS
+    r.n != 0
+        && s.at <= r.n
+        && s.phase != 0
+        && s.phase <= NOT_FINITE
+        && s.rounds <= MOST
+        && s.runs <= MOST
+        && r.limits.iter <= MOST_ALLOWED
+        && r.limits.fevals <= MOST_ALLOWED
+        && r.options.restarts <= MOST_RESTARTS
 }
 
 // Whether the search that a record holds is in range: its mark, max_evals, trials and position.
+#[tactic(auto, unfolding(crate::specs::Record::valid_search_part_of))]
 fn valid_search_part(r: Record) -> bool
     ensures { result ≡ valid_search_part_of r }
 {
-    let d = r.descent;
-    let s = d.search;
-    let o = r.gradient;
-    let w = o.wolfe;
-    if s.phase == 0 {
-        return false;
-    }
-    if FAILED < s.phase {
-        return false;
-    }
-    if MOST_EVALS < w.evals {
-        return false;
-    }
-    if w.evals < s.trials {
-        return false;
-    }
-    s.diff.at <= r.n
+    let s = r.descent.search;
+    let w = r.gradient.wolfe;
+    s.phase != 0
+        && s.phase <= FAILED
+        && w.evals <= MOST_EVALS
+        && s.trials <= w.evals
+        && s.diff.at <= r.n
 }
 
 // Whether a record of the job search is in range.
+#[tactic(auto, unfolding(crate::specs::Record::valid_search_of))]
 fn valid_search(r: Record) -> bool
     ensures { result ≡ valid_search_of r }
 {
-    let d = r.descent;
-    if r.n == 0 {
-        return false;
-    }
-    if d.phase != SEARCHING {
-        return false;
-    }
-    valid_search_part(r)
+    r.n != 0 && r.descent.phase == SEARCHING && valid_search_part(r)
 }
 
 // Whether a number and a detail are those of a refusal that may end a gradient fit.
+#[tactic(auto, unfolding(crate::specs::Record::known_refusal_of))]
 fn known_refusal(number: u64, detail: u64) -> bool
     ensures { result ≡ known_refusal_of number detail }
 {
-    if number == 5 {
-        if detail == 1 {
-            return true;
-        }
-        return detail == 2;
+    match number {
+        5 => detail == 1 || detail == 2,
+        12 => detail != 0 && detail <= 4,
+        6 | 7 | 9..=11 | 13 | 14 | 18 | 19 => detail == 0,
+        _ => false,
     }
-    if number == 12 {
-        if detail == 0 {
-            return false;
-        }
-        return detail <= 4;
-    }
-    if detail != 0 {
-        return false;
-    }
-    if number < 6 {
-        return false;
-    }
-    if number <= 14 {
-        return number != 8;
-    }
-    if number == 18 {
-        return true;
-    }
-    number == 19
 }
 
 // Whether a descent that a refusal ended knows it.
+#[tactic(auto, unfolding(crate::specs::Record::valid_ending_of))]
 fn valid_ending(d: Descent) -> bool
     ensures { result ≡ valid_ending_of d }
 {
-    if d.phase == BY_REFUSAL {
-        return known_refusal(d.number, d.detail);
-    }
-    true
+    d.phase != BY_REFUSAL || known_refusal(d.number, d.detail)
 }
 
 // Whether the allowances and the memory of a gradient fit are within the limits.
+#[tactic(auto, unfolding(crate::specs::Record::valid_options_of))]
 fn valid_options(r: Record) -> bool
     ensures { result ≡ valid_options_of r }
 {
-    let limits = r.limits;
-    let o = r.gradient;
-    if MOST_ALLOWED < limits.iter {
-        return false;
-    }
-    if 16 < o.memory {
-        return false;
-    }
-    if limits.fevals == NO_LIMIT {
-        return true;
-    }
-    limits.fevals <= MOST_ALLOWED
+    r.limits.iter <= MOST_ALLOWED
+        && r.gradient.memory <= 16
+        && (r.limits.fevals == NO_LIMIT || r.limits.fevals <= MOST_ALLOWED)
 }
 
 // Whether a model holds no more pairs than its memory, and that no more than sixteen.
+#[tactic(auto, unfolding(crate::specs::Record::valid_model_of))]
 fn valid_model(m: Model) -> bool
     ensures { result ≡ valid_model_of m }
 {
-    let pairs = m.pairs;
-    if 16 < m.memory {
-        return false;
-    }
-    pairs.count <= m.memory
+    m.memory <= 16 && m.pairs.count <= m.memory
 }
 
 // Whether a record of the jobs bfgs and lbfgs is in range.
+#[tactic(auto, unfolding(crate::specs::Record::valid_descent_of))]
 fn valid_descent(r: Record) -> bool
     ensures { result ≡ valid_descent_of r }
 {
     let d = r.descent;
-    let diff = d.diff;
-    let m = r.model;
-    if r.n == 0 {
-        return false;
-    }
-    if d.phase == 0 {
-        return false;
-    }
-    if BY_REFUSAL < d.phase {
-        return false;
-    }
-    if !valid_ending(d) {
-        return false;
-    }
-    if MOST < d.rounds {
-        return false;
-    }
-    if r.n < diff.at {
-        return false;
-    }
-    if !valid_options(r) {
-        return false;
-    }
-    if !valid_model(m) {
-        return false;
-    }
-    valid_search_part(r)
+    r.n != 0
+        && d.phase != 0
+        && d.phase <= BY_REFUSAL
+        && valid_ending(d)
+        && d.rounds <= MOST
+        && d.diff.at <= r.n
+        && valid_options(r)
+        && valid_model(r.model)
+        && valid_search_part(r)
 }
 
-// Refusal 1: whether the record is in range.
+// Whether the part of a record that its job uses is in range.
+#[tactic(auto, unfolding(crate::specs::Record::valid_part_of, crate::specs::Record::gradient_job_of))]
+fn valid_part(r: Record) -> bool
+    ensures { result ≡ valid_part_of r }
+{
+    match r.job {
+        SIMPLEX => valid_simplex(r),
+        BFGS | LBFGS => valid_descent(r),
+        SEARCH => valid_search(r),
+        DIFFERENCES => r.diff.at <= r.n,
+        _ => false,
+    }
+}
+
+// Refusal 1: whether the record is in range. It is no method, since optim passes it on by this name.
+#[tactic(auto, unfolding(crate::specs::Record::valid_of))]
 pub fn valid(r: Record) -> bool
     ensures { result ≡ valid_of r }
 {
-    let counts = r.counts;
-    let diff = r.diff;
-    if 16 < r.n {
-        return false;
-    }
-    if MOST < r.accepted {
-        return false;
-    }
-    if MOST < counts.fevals {
-        return false;
-    }
-    if MOST < counts.gevals {
-        return false;
-    }
-    if r.job == SIMPLEX {
-        return valid_simplex(r);
-    }
-    if r.job == SEARCH {
-        return valid_search(r);
-    }
-    if gradient_job(r.job) {
-        return valid_descent(r);
-    }
-    if r.job == DIFFERENCES {
-        return diff.at <= r.n;
-    }
-    false
+    r.n <= 16
+        && r.accepted <= MOST
+        && r.counts.fevals <= MOST
+        && r.counts.gevals <= MOST
+        && valid_part(r)
 }

@@ -5,7 +5,7 @@ use Rattle.float.specs.Binary64.{plus_zero}
 use Rattle.protocol.specs.declared.Kind.{Kind}
 use Rattle.protocol.specs.declared.Kind.TheVariants.{Value, Gradient}
 use Rattle.protocol.specs.declared.Said.TheVariants.{Ask, Fitted, Searched, Differenced, Refused}
-use Rattle.protocol.specs.Protocol.{Reply, ask, ended, refused, reply_of, simplex_mark, search_mark}
+use Rattle.protocol.specs.Protocol.{Reply, ask, ended, refused, refusal, reply_of, simplex_mark, search_mark}
 use Rattle.objective.specs.declared.Differences.{Differences}
 use Rattle.objective.specs.Step.{probe_of}
 use Rattle.linesearch_trials.specs.declared.Fixed as linesearch_fixed
@@ -34,7 +34,7 @@ none = replicate 16 plus_zero
 
 -- a refusal: it speaks of no point
 abbrev pub refusal_of : ℕ → ℕ → Spoken
-refusal_of number detail = record { said = Refused number detail; x = none; g = none }
+refusal_of number detail = record { said = Refused (refusal number detail); x = none; g = none }
 
 -- the question after `accepted` answers
 abbrev pub asked_of : ℕ → Kind → List Float → Spoken

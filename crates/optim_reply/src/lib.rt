@@ -1,4 +1,5 @@
-// What stands in a record: its open question, or its outcome. All of it is a function of the record.
+// What stands in a record: its open question, or its outcome. All of it is a function of the record, and no method, which only
+// optim_record could declare.
 #![tactic(auto)]
 
 ghost use Rattle.std.specs.Prelude.{◌≡◌, ◌≤◌};
@@ -14,7 +15,7 @@ use neldermead::{
 use neldermead_vertices::Vertex;
 use objective::Differences;
 use optim_record::{Answered, Counts, Record};
-use protocol::{Found, Kind, SEARCH, SIMPLEX, Said, Summary, Termination};
+use protocol::{BFGS, Found, Kind, LBFGS, Refusal, SEARCH, SIMPLEX, Said, Summary, Termination};
 use quasinewton::Descent;
 use quasinewton_record::{
     BY_FEVALS, BY_FUNCTION, BY_GRADIENT, BY_ITERATIONS, BY_REFUSAL, BY_SEARCH, BY_STEP,
@@ -29,15 +30,13 @@ pub struct Spoken {
 }
 
 // A refusal.
-pub fn refused(number: u64, detail: u64) -> Spoken
-    ensures { result ≡ refusal_of number detail }
+pub fn refused(why: Refusal) -> Spoken
+    ensures { result ≡ refusal_of why.number why.detail }
 {
-    let x = [0.0; 16];
-    let g = [0.0; 16];
     Spoken {
-        said: Said::Refused(number, detail),
-        x,
-        g,
+        said: Said::Refused(why),
+        x: [0.0; 16],
+        g: [0.0; 16],
     }
 }
 
@@ -45,13 +44,11 @@ pub fn refused(number: u64, detail: u64) -> Spoken
 pub fn fixed(r: Record) -> Fixed
     ensures { result ≡ fixed_of r }
 {
-    let limits = r.limits;
-    let options = r.options;
     Fixed {
         n: r.n,
-        options,
-        iter: limits.iter,
-        fevals: limits.fevals,
+        options: r.options,
+        iter: r.limits.iter,
+        fevals: r.limits.fevals,
     }
 }
 
@@ -59,12 +56,10 @@ pub fn fixed(r: Record) -> Fixed
 pub fn search_fixed(r: Record) -> linesearch::Fixed
     ensures { result ≡ search_fixed_of r }
 {
-    let o = r.gradient;
-    let options = o.wolfe;
     linesearch::Fixed {
         n: r.n,
-        gradients: o.gradients,
-        options,
+        gradients: r.gradient.gradients,
+        options: r.gradient.wolfe,
     }
 }
 
@@ -72,65 +67,50 @@ pub fn search_fixed(r: Record) -> linesearch::Fixed
 pub fn gradient_fixed(r: Record) -> quasinewton::Fixed
     ensures { result ≡ gradient_fixed_of r }
 {
-    let limits = r.limits;
-    let options = r.gradient;
     quasinewton::Fixed {
         n: r.n,
-        options,
-        iter: limits.iter,
-        fevals: limits.fevals,
+        options: r.gradient,
+        iter: r.limits.iter,
+        fevals: r.limits.fevals,
     }
 }
 
 // Whether the job has ended: a question is open in the phases up to SHRINKING and, of a search, ASKS_DIFFERENCE.
+#[tactic(auto, unfolding(crate::specs::Standing::over_of, optim_record::specs::Record::gradient_job_of))]
 pub fn over(r: Record) -> bool
     ensures { result ≡ over_of r }
 {
-    let diff = r.diff;
-    let s = r.simplex;
-    if r.job == SIMPLEX {
-        return SHRINKING < s.phase;
+    match r.job {
+        SIMPLEX => SHRINKING < r.simplex.phase,
+        SEARCH => ASKS_DIFFERENCE < r.descent.search.phase,
+        BFGS | LBFGS => !r.descent.asks(),
+        _ => r.diff.at == r.n,
     }
-    if r.job == SEARCH {
-        let d = r.descent;
-        return ASKS_DIFFERENCE < d.search.phase;
-    }
-    if optim_record::gradient_job(r.job) {
-        let d = r.descent;
-        return !quasinewton::asks(d);
-    }
-    diff.at == r.n
 }
 
 // Whether the open question is for a gradient.
+#[tactic(auto, unfolding(crate::specs::Standing::gradient_due_of, optim_record::specs::Record::gradient_job_of))]
 pub fn gradient_due(r: Record) -> bool
     ensures { result ≡ gradient_due_of r }
 {
-    if r.job == SEARCH {
-        let d = r.descent;
-        return d.search.phase == ASKS_GRADIENT;
+    match r.job {
+        SEARCH => r.descent.search.phase == ASKS_GRADIENT,
+        BFGS | LBFGS => r.descent.gradient_due(),
+        _ => false,
     }
-    if optim_record::gradient_job(r.job) {
-        let d = r.descent;
-        return quasinewton::gradient_due(d);
-    }
-    false
 }
 
 // The reason that a phase stands for: MaxFevals has the mark that is left.
+#[tactic(auto, unfolding(crate::specs::Standing::termination_of))]
 fn termination(phase: u64) -> Termination
     ensures { result ≡ termination_of phase }
 {
-    if phase == BY_TOLERANCE {
-        return Termination::SimplexTolerance;
+    match phase {
+        BY_TOLERANCE => Termination::SimplexTolerance,
+        BY_RESOLUTION => Termination::ObjectiveResolution,
+        BY_SIMPLEX_ITERATIONS => Termination::MaxIterations,
+        _ => Termination::MaxFevals,
     }
-    if phase == BY_RESOLUTION {
-        return Termination::ObjectiveResolution;
-    }
-    if phase == BY_SIMPLEX_ITERATIONS {
-        return Termination::MaxIterations;
-    }
-    Termination::MaxFevals
 }
 
 // The question of a kind at x, after `accepted` answers.
@@ -138,11 +118,10 @@ pub fn asks(accepted: u64, kind: Kind, x: [f64; 16]) -> Spoken
     requires { accepted ≤ 40000000001 }
     ensures { result ≡ asked_of accepted kind x }
 {
-    let g = [0.0; 16];
     Spoken {
         said: Said::Ask(accepted + 1, kind),
         x,
-        g,
+        g: [0.0; 16],
     }
 }
 
@@ -150,25 +129,24 @@ pub fn asks(accepted: u64, kind: Kind, x: [f64; 16]) -> Spoken
 fn ends(counts: Counts, phase: u64, rounds: u64, best: Vertex) -> Spoken
     ensures { result ≡ ended_of counts phase rounds best }
 {
-    let x = best.x;
-    let g = [0.0; 16];
-    let reason = termination(phase);
     let summary = Summary {
-        reason,
+        reason: termination(phase),
         converged: phase == BY_TOLERANCE,
         iterations: rounds,
         fevals: counts.fevals,
         gevals: counts.gevals,
         f: best.f,
     };
+    let x = best.x;
     Spoken {
         said: Said::Fitted(summary),
         x,
-        g,
+        g: [0.0; 16],
     }
 }
 
 // What stands in a simplex fit: parts of its record are passed, since the whole would be copied.
+#[tactic(auto, unfolding(crate::specs::Spoken::simplex_spoken_of))]
 fn standing_simplex(
     accepted: u64,
     counts: Counts,
@@ -184,7 +162,7 @@ fn standing_simplex(
         return asks(accepted, Kind::Value, x);
     }
     if phase == NOT_FINITE {
-        return refused(20, 0);
+        return refused(Refusal::new(20, 0));
     }
     ends(counts, phase, rounds, best)
 }
@@ -194,15 +172,14 @@ fn found(s: Search) -> Spoken
     ensures { result ≡ found_of s }
 {
     let best = s.best;
-    let trial = best.trial;
-    let x = best.x;
-    let g = best.g;
     let outcome = Found {
         success: s.phase == FOUND,
-        step: trial.step,
-        f: trial.value,
+        step: best.trial.step,
+        f: best.trial.value,
         trials: s.trials,
     };
+    let x = best.x;
+    let g = best.g;
     Spoken {
         said: Said::Searched(outcome),
         x,
@@ -211,6 +188,7 @@ fn found(s: Search) -> Spoken
 }
 
 // What stands in a search.
+#[tactic(auto, unfolding(crate::specs::Spoken::search_spoken_of))]
 pub fn standing_search(accepted: u64, fixed: linesearch::Fixed, line: Line, s: Search) -> Spoken
     requires accepted_bound { accepted ≤ 40000000001 }
     requires n_bound { fixed.n ≤ 16 }
@@ -219,7 +197,7 @@ pub fn standing_search(accepted: u64, fixed: linesearch::Fixed, line: Line, s: S
     if ASKS_DIFFERENCE < s.phase {
         return found(s);
     }
-    let x = linesearch::probe(fixed, line, s);
+    let x = linesearch::probe(&linesearch::Setup { fixed, line }, s);
     if s.phase == ASKS_GRADIENT {
         return asks(accepted, Kind::Gradient, x);
     }
@@ -227,85 +205,70 @@ pub fn standing_search(accepted: u64, fixed: linesearch::Fixed, line: Line, s: S
 }
 
 // The reason that a gradient fit's phase stands for: GradientFailed has the mark that is left.
+#[tactic(auto, unfolding(crate::specs::Standing::descent_termination_of))]
 fn descent_termination(phase: u64) -> Termination
     ensures { result ≡ descent_termination_of phase }
 {
-    if phase == BY_GRADIENT {
-        return Termination::GradientTolerance;
+    match phase {
+        BY_GRADIENT => Termination::GradientTolerance,
+        BY_FUNCTION => Termination::FunctionTolerance,
+        BY_STEP => Termination::StepTolerance,
+        BY_ITERATIONS => Termination::MaxIterations,
+        BY_FEVALS => Termination::MaxFevals,
+        BY_SEARCH => Termination::LineSearchFailed,
+        _ => Termination::GradientFailed,
     }
-    if phase == BY_FUNCTION {
-        return Termination::FunctionTolerance;
-    }
-    if phase == BY_STEP {
-        return Termination::StepTolerance;
-    }
-    if phase == BY_ITERATIONS {
-        return Termination::MaxIterations;
-    }
-    if phase == BY_FEVALS {
-        return Termination::MaxFevals;
-    }
-    if phase == BY_SEARCH {
-        return Termination::LineSearchFailed;
-    }
-    Termination::GradientFailed
 }
 
+#[tactic(auto, unfolding(crate::specs::Standing::descent_converged_of))]
 fn descent_converged(phase: u64) -> bool
     ensures { result ≡ descent_converged_of phase }
 {
-    if phase < BY_GRADIENT {
-        return false;
-    }
-    phase <= BY_STEP
+    BY_GRADIENT <= phase && phase <= BY_STEP
 }
 
 // The result of a gradient fit.
 fn descent_ends(counts: Counts, phase: u64, rounds: u64, line: Line) -> Spoken
     ensures { result ≡ descent_ended_of counts phase rounds line }
 {
-    let x = line.x;
-    let g = [0.0; 16];
-    let reason = descent_termination(phase);
-    let converged = descent_converged(phase);
     let summary = Summary {
-        reason,
-        converged,
+        reason: descent_termination(phase),
+        converged: descent_converged(phase),
         iterations: rounds,
         fevals: counts.fevals,
         gevals: counts.gevals,
         f: line.f,
     };
+    let x = line.x;
     Spoken {
         said: Said::Fitted(summary),
         x,
-        g,
+        g: [0.0; 16],
     }
 }
 
 // What stands in a gradient fit.
+#[tactic(auto, unfolding(crate::specs::Spoken::descent_spoken_of))]
 fn standing_descent(accepted: u64, counts: Counts, fixed: quasinewton::Fixed, d: Descent) -> Spoken
     requires accepted_bound { accepted ≤ 40000000001 }
     requires n_bound { fixed.n ≤ 16 }
     ensures { result ≡ descent_spoken_of accepted counts fixed d }
 {
-    let line = d.line;
-    let asking = quasinewton::asks(d);
-    let slopes = quasinewton::gradient_due(d);
-    if asking {
+    if d.asks() {
         let x = quasinewton::probe(fixed, d);
-        if slopes {
+        if d.gradient_due() {
             return asks(accepted, Kind::Gradient, x);
         }
         return asks(accepted, Kind::Value, x);
     }
     if d.phase == BY_REFUSAL {
-        return refused(d.number, d.detail);
+        return refused(Refusal::new(d.number, d.detail));
     }
-    descent_ends(counts, d.phase, d.rounds, line)
+    descent_ends(counts, d.phase, d.rounds, d.line)
 }
 
 // What stands in differences.
+#[tactic(auto, unfolding(crate::specs::Spoken::differences_spoken_of))]
 pub fn standing_differences(accepted: u64, n: usize, diff: Differences) -> Spoken
     requires accepted_bound { accepted ≤ 40000000001 }
     requires n_bound { n ≤ 16 }
@@ -321,44 +284,44 @@ pub fn standing_differences(accepted: u64, n: usize, diff: Differences) -> Spoke
             g,
         };
     }
-    let x = objective::probe(diff);
-    asks(accepted, Kind::Value, x)
+    asks(accepted, Kind::Value, diff.probe())
 }
 
 // The question or the outcome that stands.
+#[tactic(auto, unfolding(crate::specs::Spoken::spoken_of, optim_record::specs::Record::gradient_job_of))]
 pub fn standing(r: Record) -> Spoken
     requires { Stands r }
     ensures { result ≡ spoken_of r }
 {
-    let counts = r.counts;
-    let s = r.simplex;
-    let d = r.descent;
-    let diff = r.diff;
-    if r.job == SIMPLEX {
-        let x = s.x;
-        let best = s.best;
-        return standing_simplex(r.accepted, counts, s.phase, s.rounds, x, best);
+    match r.job {
+        SIMPLEX => standing_simplex(
+            r.accepted,
+            r.counts,
+            r.simplex.phase,
+            r.simplex.rounds,
+            r.simplex.x,
+            r.simplex.best,
+        ),
+        SEARCH => standing_search(
+            r.accepted,
+            search_fixed(r),
+            r.descent.line,
+            r.descent.search,
+        ),
+        BFGS | LBFGS => standing_descent(r.accepted, r.counts, gradient_fixed(r), r.descent),
+        _ => standing_differences(r.accepted, r.n, r.diff),
     }
-    if r.job == SEARCH {
-        let line = d.line;
-        let search = d.search;
-        return standing_search(r.accepted, search_fixed(r), line, search);
-    }
-    if optim_record::gradient_job(r.job) {
-        return standing_descent(r.accepted, counts, gradient_fixed(r), d);
-    }
-    standing_differences(r.accepted, r.n, diff)
 }
 
 // What is said, beside its record.
+#[tactic(auto, unfolding(crate::specs::Spoken::reply_with, optim_record::specs::Record::outcome_of))]
 pub fn answered(s: Spoken, r: Record) -> Answered
     ensures { (outcome_of result ≡ reply_with s r) × (spoken_in result ≡ s) }
 {
-    let said = s.said;
     let x = s.x;
     let g = s.g;
     Answered {
-        said,
+        said: s.said,
         x,
         g,
         next: r,

@@ -1,7 +1,8 @@
 -- Which refusal an answer meets, the repeat rule, and which answer is accepted. Definitions only.
-use Rattle.std.specs.Prelude.{ℕ, ◌+◌, Bool, false, cond, not, eqb}
+use Rattle.std.specs.Prelude.{ℕ, ◌+◌, Bool, false, cond, not, eqb, Ok, Err, Result as OkOrErr}
 use Rattle.protocol.specs.declared.Kind.TheVariants.{Value, Gradient}
-use Rattle.protocol.specs.Protocol.{letter}
+use Rattle.protocol.specs.declared.Refusal.{Refusal}
+use Rattle.protocol.specs.Protocol.{letter, refusal}
 use Rattle.optim_record.specs.declared.Record.{Record}
 use Rattle.optim_record.specs.Record.{valid_of}
 use Rattle.optim_reply.specs.Standing.{over_of, gradient_due_of}
@@ -28,3 +29,10 @@ meets_of r number kind count =
 -- an answer that meets the refusal `why` is accepted
 unfoldable pub accepts_of : Record → ℕ → ℕ → Bool
 accepts_of r number why = cond (not (eqb why 0)) false (not (repeats_of r.accepted number))
+
+-- both: whether an answer is accepted, or the refusal that it meets
+unfoldable pub accepted_of : Record → ℕ → ℕ → ℕ → OkOrErr Bool Refusal
+unfolding meets_of accepts_of
+accepted_of r number kind count =
+    let why = meets_of r number kind count in
+    cond (eqb why 0) (Ok (accepts_of r number why)) (Err (refusal why 0))

@@ -1,50 +1,22 @@
--- What is said at a start: a fit asks for the value at its first point, a search and differences by their own rule; and that
--- it can stand. Assumes nothing.
+-- What is said of a first record can stand. Assumes nothing.
 use Prim.Native.Nat.{ℕ, ◌≤◌, zero-le}
 use mathlib.Core.Path.{◌≡◌, refl}
 use mathlib.Core.Bool.{Bool, true, false, true≢false}
 use mathlib.Core.List.{List}
 use lib.ListN.{length}
 use lib.Ieee.{Float}
-use Rattle.protocol.specs.declared.Kind.TheVariants.{Value}
 use Rattle.protocol.specs.declared.SimplexOptions.{SimplexOptions}
 use Rattle.protocol.specs.declared.WolfeOptions.{WolfeOptions}
 use Rattle.protocol.specs.declared.GradientOptions.{GradientOptions}
 use Rattle.protocol.specs.declared.Allowances.{Allowances}
 use Rattle.objective.specs.Step.{begun_of}
 use Rattle.linesearch_trials.specs.declared.Line.{Line}
-use Rattle.neldermead.specs.Step.{start_of}
-use Rattle.quasinewton.specs.Step as quasinewton
-use Rattle.optim_record.specs.Record.{search_fixed_of, gradient_job_of, Stands}
-use Rattle.optim_reply.specs.Spoken.{asked_of, simplex_spoken_of, search_spoken_of, descent_spoken_of, differences_spoken_of, spoken_of}
+use Rattle.optim_record.specs.Record.{gradient_job_of, Stands}
 use Rattle.optim_first_record.specs.Starts.{begun_record_of, simplex_record_of, search_record_of, gradient_mark_of, gradient_record_of}
-
-pub simplex_speaks : (x : List Float) (n : ℕ) (o : SimplexOptions) (a : Allowances) → asked_of (simplex_record_of x n o a).accepted Value x ≡ spoken_of (simplex_record_of x n o a)
-unfolding spoken_of simplex_spoken_of simplex_record_of start_of
-simplex_speaks x n o a = refl
-
-pub gradient_speaks : (x : List Float) (n : ℕ) (o : GradientOptions) (a : Allowances) (limited : Bool)
-    → asked_of (gradient_record_of x n o a limited).accepted Value x ≡ spoken_of (gradient_record_of x n o a limited)
-unfolding spoken_of descent_spoken_of gradient_record_of gradient_mark_of gradient_job_of quasinewton.start_of quasinewton.asks_of quasinewton.gradient_due_of quasinewton.probe_of
-gradient_speaks x n o a true = refl
-gradient_speaks x n o a false = refl
-
-pub search_speaks : (l : Line) (n : ℕ) (step : Float) (o : WolfeOptions) (gradients : Bool) → let r = search_record_of l n step o gradients in
-    search_spoken_of r.accepted (search_fixed_of r) r.descent.line r.descent.search ≡ spoken_of r
-unfolding spoken_of search_record_of
-search_speaks l n step o gradients = refl
-
-pub differences_speak : (x : List Float) → differences_spoken_of (begun_record_of x).accepted (begun_record_of x).n (begun_record_of x).diff ≡ spoken_of (begun_record_of x)
-unfolding spoken_of begun_record_of gradient_job_of
-differences_speak x = refl
 
 pub begun_stands : (x : List Float) → length x ≤ 16 → Stands (begun_record_of x)
 unfolding begun_record_of begun_of
 begun_stands x h = record { few = h; numbers = zero-le; coordinate = λ o. zero-le }
-
-pub begun_within : (x : List Float) → (begun_record_of x).diff.at ≤ (begun_record_of x).n
-unfolding begun_record_of begun_of
-begun_within x = zero-le
 
 pub simplex_stands : (point : List Float) (n : ℕ) (o : SimplexOptions) (a : Allowances) → n ≤ 16 → Stands (simplex_record_of point n o a)
 unfolding simplex_record_of

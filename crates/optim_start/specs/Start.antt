@@ -1,16 +1,22 @@
 -- Starts. Definitions only.
-use Rattle.std.specs.Prelude.{Bool, true, false, not, cond, List, ltb, eqb, length, Float}
+use Rattle.std.specs.Prelude.{Bool, true, false, not, cond, List, ltb, eqb, length, Float, Ok, Err, Result as OkOrErr}
 use Rattle.vector.specs.Points.{from_slice_of, all_finite_of}
 use Rattle.protocol.specs.declared.Allowances.{Allowances}
 use Rattle.protocol.specs.declared.SimplexOptions.{SimplexOptions}
 use Rattle.protocol.specs.declared.WolfeOptions.{WolfeOptions}
 use Rattle.protocol.specs.declared.GradientOptions.{GradientOptions}
+use Rattle.protocol.specs.declared.Refusal.{Refusal}
 use Rattle.protocol.specs.Protocol.{Reply}
 use Rattle.linesearch_trials.specs.Start.{line_from_of, line_refusal_of}
 use Rattle.optim_record.specs.declared.Record.{Record}
 use Rattle.optim_record.specs.Record.{blank_of}
 use Rattle.optim_reply.specs.Standing.{refused_of, standing_of}
 use Rattle.optim_first_record.specs.Starts.{begun_record_of, simplex_refusal_of, simplex_record_of, search_refusal_of, search_record_of, gradient_refusal_of, gradient_record_of}
+
+-- what a start says: what stands in its first record, or the refusal that it met
+abbrev pub started_of : OkOrErr Record Refusal → Reply × Record
+started_of (Ok r) = standing_of r
+started_of (Err why) = refused_of blank_of why.number why.detail
 
 -- differences meet 2 alone: "A lent list .. is above 16"
 unfoldable pub differences_of : List Float → Reply × Record

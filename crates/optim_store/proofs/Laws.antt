@@ -1,9 +1,9 @@
--- The marks by their flags, and the one form of a record by its arrays. Assumes nothing.
+-- The marks by their flags. Assumes nothing.
 use Prim.Native.Nat.{ℕ}
 use mathlib.Core.Path.{◌≡◌}
 use mathlib.Core.List.{List, [], ◌∷◌}
 use Rattle.optim_record.specs.declared.Record.{Record}
-use Rattle.optim_lists.specs.Lists.{Lists, lists, flag_of, marks_of, numbers_of, points_of, values_of, steps_of, changes_of, factors_of, lists_of}
+use Rattle.optim_lists.specs.Lists.{flag_of, marks_of}
 
 abbrev with_flags : Record → ℕ → ℕ → ℕ → ℕ → ℕ → ℕ → ℕ → ℕ → ℕ → ℕ → ℕ → List ℕ
 with_flags r f0 f1 f2 f3 f4 f5 f6 f7 f8 f9 f10 =
@@ -27,12 +27,3 @@ pub marks_by : (r : Record) {f0 f1 f2 f3 f4 f5 f6 f7 f8 f9 f10 : ℕ} → f0 ≡
     → with_flags r f0 f1 f2 f3 f4 f5 f6 f7 f8 f9 f10 ≡ marks_of r
 unfolding marks_of
 marks_by r e0 e1 e2 e3 e4 e5 e6 e7 e8 e9 e10 = λ i. with_flags r (e0 i) (e1 i) (e2 i) (e3 i) (e4 i) (e5 i) (e6 i) (e7 i) (e8 i) (e9 i) (e10 i)
-
-pub lists_by : (r : Record) {l : Lists} → l.marks ≡ marks_of r → l.numbers ≡ numbers_of r → l.diff_x ≡ r.diff.x → l.diff_g ≡ r.diff.g
-    → l.simplex_x ≡ r.simplex.x → l.best_x ≡ r.simplex.best.x → l.centroid ≡ r.simplex.cen → l.reflected_x ≡ r.simplex.refl.x → l.points ≡ points_of r.simplex.v → l.values ≡ values_of r.simplex.v
-    → l.line_x ≡ r.descent.line.x → l.line_g ≡ r.descent.line.g → l.line_d ≡ r.descent.line.d
-    → l.trial_x ≡ r.descent.search.best.x → l.trial_g ≡ r.descent.search.best.g → l.search_diff_x ≡ r.descent.search.diff.x → l.search_diff_g ≡ r.descent.search.diff.g → l.first_diff_x ≡ r.descent.diff.x → l.first_diff_g ≡ r.descent.diff.g
-    → l.hessian ≡ r.model.dense.h → l.steps ≡ steps_of r.model.pairs.pairs → l.changes ≡ changes_of r.model.pairs.pairs → l.factors ≡ factors_of r.model.pairs.pairs
-    → l ≡ lists_of r
-unfolding lists_of
-lists_by r e0 e1 e2 e3 e4 e5 e6 e7 e8 e9 e10 e11 e12 e13 e14 e15 e16 e17 e18 e19 e20 e21 e22 = λ i. lists (e0 i) (e1 i) (e2 i) (e3 i) (e4 i) (e5 i) (e6 i) (e7 i) (e8 i) (e9 i) (e10 i) (e11 i) (e12 i) (e13 i) (e14 i) (e15 i) (e16 i) (e17 i) (e18 i) (e19 i) (e20 i) (e21 i) (e22 i)

@@ -1,14 +1,18 @@
 // The one form of a record, stored in lists that are lent.
 #![tactic(auto)]
 
-ghost use Rattle.std.specs.Prelude.{◌≡◌};
-ghost use Rattle.optim_lists.specs.Lists.{lists, flag_of, marks_of, numbers_of, points_of, values_of, steps_of, changes_of, factors_of, lists_of};
+ghost use Rattle.std.specs.Prelude.{◌≡◌, ◌<◌};
+ghost use Rattle.quasinewton_limited.specs.Step.{pair_at};
+ghost use Rattle.neldermead_vertices.specs.Vertices.{vertex_at};
+ghost use Rattle.optim_lists.specs.Lists.{flag_of, marks_of, numbers_of, points_of, values_of, steps_of, changes_of, factors_of, lists_of};
+ghost use Rattle.optim_lists.specs.Lent.{lists_left};
 
 use linesearch::Search;
 use linesearch_trials::Line;
 use neldermead::Simplex;
 use neldermead_vertices::Vertex;
 use objective::Differences;
+use optim_lists::Lent;
 use optim_record::Record;
 use quasinewton_limited::Pair;
 use quasinewton_model::Model;
@@ -16,86 +20,57 @@ use quasinewton_model::Model;
 fn flag(b: bool) -> u64
     ensures { result ≡ flag_of b }
 {
-    if b {
-        return 1;
-    }
-    0
+    u64::from(b)
 }
 
-// The vertices' points.
+// The vertices' points. (An array's `map` goes through a buffer, and takes seven times as long as this.)
 fn points_of(v: [Vertex; 17]) -> [[f64; 16]; 17]
     ensures { result ≡ points_of v }
 {
-    let zeros = [0.0; 16];
-    let mut xs = [zeros; 17];
-    let mut i: usize = 0;
-    while i < 17 {
-        let p = v[i];
-        let x = p.x;
-        xs[i] = x;
-        i += 1;
-    }
-    xs
+    std::array::from_fn(
+        |i: usize| -> [f64; 16]
+            requires { i < 17 }
+            ensures { result ≡ (vertex_at v i).x }
+        { v[i].x },
+    )
 }
 
 // The value at each.
 fn values_of(v: [Vertex; 17]) -> [f64; 17]
     ensures { result ≡ values_of v }
 {
-    let mut fs = [0.0; 17];
-    let mut i: usize = 0;
-    while i < 17 {
-        let p = v[i];
-        fs[i] = p.f;
-        i += 1;
-    }
-    fs
+    std::array::from_fn(|i| v[i].f)
 }
 
 // The pairs' steps.
 fn steps_of(p: [Pair; 16]) -> [[f64; 16]; 16]
     ensures { result ≡ steps_of p }
 {
-    let zeros = [0.0; 16];
-    let mut ss = [zeros; 16];
-    let mut i: usize = 0;
-    while i < 16 {
-        let q = p[i];
-        let s = q.s;
-        ss[i] = s;
-        i += 1;
-    }
-    ss
+    std::array::from_fn(
+        |i: usize| -> [f64; 16]
+            requires { i < 16 }
+            ensures { result ≡ (pair_at p i).s }
+        { p[i].s },
+    )
 }
 
 // Their changes.
 fn changes_of(p: [Pair; 16]) -> [[f64; 16]; 16]
     ensures { result ≡ changes_of p }
 {
-    let zeros = [0.0; 16];
-    let mut ys = [zeros; 16];
-    let mut i: usize = 0;
-    while i < 16 {
-        let q = p[i];
-        let y = q.y;
-        ys[i] = y;
-        i += 1;
-    }
-    ys
+    std::array::from_fn(
+        |i: usize| -> [f64; 16]
+            requires { i < 16 }
+            ensures { result ≡ (pair_at p i).y }
+        { p[i].y },
+    )
 }
 
 // Their factors.
 fn factors_of(p: [Pair; 16]) -> [f64; 16]
     ensures { result ≡ factors_of p }
 {
-    let mut rs = [0.0; 16];
-    let mut i: usize = 0;
-    while i < 16 {
-        let q = p[i];
-        rs[i] = q.rho;
-        i += 1;
-    }
-    rs
+    std::array::from_fn(|i| p[i].rho)
 }
 
 // The marks, in the order of their places.
@@ -143,6 +118,7 @@ fn marks(r: Record) -> [u64; 36]
 }
 
 // The single numbers, in the order of their places.
+#[tactic(auto, unfolding(optim_lists::specs::Lists::numbers_of))]
 fn numbers(r: Record) -> [f64; 28]
     ensures { result ≡ numbers_of r }
 {
@@ -278,48 +254,43 @@ fn store_model(
 }
 
 // The one form of a record in the lists, whatever they held.
-pub fn store(
-    m: &mut [u64; 36],
-    w: &mut [f64; 28],
-    dx: &mut [f64; 16],
-    dg: &mut [f64; 16],
-    sx: &mut [f64; 16],
-    best: &mut [f64; 16],
-    centroid: &mut [f64; 16],
-    reflected: &mut [f64; 16],
-    points: &mut [[f64; 16]; 17],
-    values: &mut [f64; 17],
-    lx: &mut [f64; 16],
-    lg: &mut [f64; 16],
-    ld: &mut [f64; 16],
-    tx: &mut [f64; 16],
-    tg: &mut [f64; 16],
-    ex: &mut [f64; 16],
-    eg: &mut [f64; 16],
-    ix: &mut [f64; 16],
-    ig: &mut [f64; 16],
-    h: &mut [f64; 256],
-    steps: &mut [[f64; 16]; 16],
-    changes: &mut [[f64; 16]; 16],
-    factors: &mut [f64; 16],
-    r: Record,
-)
-    ensures { lists m.new w.new dx.new dg.new sx.new best.new centroid.new reflected.new points.new values.new lx.new lg.new ld.new tx.new tg.new ex.new eg.new ix.new ig.new h.new steps.new changes.new factors.new ≡ lists_of r }
+#[tactic(auto, unfolding(optim_lists::specs::Lists::lists_of))]
+pub fn store(l: Lent<'_>, r: Record)
+    ensures { lists_left l.exit ≡ lists_of r }
 {
+    let Lent {
+        m,
+        w,
+        dx,
+        dg,
+        sx,
+        best,
+        centroid,
+        reflected,
+        points,
+        values,
+        lx,
+        lg,
+        ld,
+        tx,
+        tg,
+        ex,
+        eg,
+        ix,
+        ig,
+        h,
+        steps,
+        changes,
+        factors,
+    } = l;
     let ms = marks(r);
     *m = ms;
     let ws = numbers(r);
     *w = ws;
-    let diff = r.diff;
-    store_differences(dx, dg, diff);
-    let simplex = r.simplex;
-    store_simplex(sx, best, centroid, reflected, points, values, simplex);
-    let line = r.descent.line;
-    store_line(lx, lg, ld, line);
-    let search = r.descent.search;
-    store_search(tx, tg, ex, eg, search);
-    let first = r.descent.diff;
-    store_differences(ix, ig, first);
-    let model = r.model;
-    store_model(h, steps, changes, factors, model);
+    store_differences(dx, dg, r.diff);
+    store_simplex(sx, best, centroid, reflected, points, values, r.simplex);
+    store_line(lx, lg, ld, r.descent.line);
+    store_search(tx, tg, ex, eg, r.descent.search);
+    store_differences(ix, ig, r.descent.diff);
+    store_model(h, steps, changes, factors, r.model);
 }

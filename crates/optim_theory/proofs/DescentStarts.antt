@@ -15,13 +15,13 @@ use Rattle.vector.specs.Loops.{at}
 use Rattle.vector.specs.Lists.{all_finite}
 use Rattle.vector.specs.Points.{from_slice_of, all_finite_of}
 use Rattle.vector.proofs.First.{point_laws}
-use Rattle.protocol.specs.declared.Allowance.{Allowance}
+use Rattle.std.specs.Prelude.{Option, None, Some, unwrap_or}
 use Rattle.protocol.specs.declared.Allowances.{Allowances}
 use Rattle.protocol.specs.declared.Kind.{Kind}
 use Rattle.protocol.specs.declared.Kind.TheVariants.{Value, Gradient}
 use Rattle.protocol.specs.declared.GradientOptions.{GradientOptions}
 use Rattle.protocol.specs.declared.Refusal.{Refusal}
-use Rattle.protocol.specs.Protocol.{refusal, Reply, Job, bfgs, lbfgs, Fit, allowance_of}
+use Rattle.protocol.specs.Protocol.{refusal, Reply, Job, bfgs, lbfgs, Fit}
 use Rattle.protocol.specs.Dialogue.{NotRefused}
 use Rattle.protocol.specs.Claim.{limit, unlimited, or_default, default_iter, default_fevals}
 use Rattle.protocol.specs.Ask.{finish, ◌>>=◌}
@@ -42,11 +42,11 @@ use Rattle.optim_record.specs.declared.Record.{Record}
 use Rattle.optim_record.specs.Record.{most_allowed, most_evals, no_limit, no_options, idle_of, blank_of, gradient_fixed_of, gradient_job_of}
 use Rattle.optim_reply.specs.Standing.{refused_of, standing_of}
 use Rattle.optim_reply.proofs.Says.{stands_keeps}
-use Rattle.optim_first_record.specs.Starts.{limit_of, gradient_past_limits_of, ordered_of, no_memory_of, gradient_refusal_of, gradient_limits_of, kept_options_of, gradient_mark_of, gradient_record_of}
+use Rattle.optim_first_record.specs.Starts.{gradient_past_limits_of, ordered_of, no_memory_of, gradient_refusal_of, gradient_limits_of, kept_options_of, gradient_mark_of, gradient_record_of}
 use Rattle.optim_start.specs.Start.{gradient_of, bfgs_of, lbfgs_of}
 use Rattle.optim_theory.specs.Engine.{start_code}
 use Rattle.optim_theory.proofs.Refusals.{start_named}
-use Rattle.optim_theory.proofs.EngineStarts.{by_given, excess_as, limit_as, whole, finite_as, decide}
+use Rattle.optim_theory.proofs.EngineStarts.{limit_as, whole, finite_as, decide}
 use Rattle.optim_theory.proofs.DescentRelated.{Text, rest_of, NoPairs, Sound, shows}
 use Rattle.optim_theory.proofs.DescentBounds.{Budget, bounding, Within}
 use Rattle.optim_theory.proofs.DescentMoves.{AsLimit, Bounded}
@@ -105,10 +105,10 @@ module _ (limited : Bool) (o : GradientOptions) (a : Allowances) (x : List Float
 
   -- whether max_iter or max_fevals is given and past 2's limit
   abbrev iter_past : Bool
-  iter_past = excess (allowance_of a.iter)
+  iter_past = excess a.iter
 
   abbrev fevals_past : Bool
-  fevals_past = excess (allowance_of a.fevals)
+  fevals_past = excess a.fevals
 
   abbrev n : ℕ
   n = length x
@@ -129,7 +129,7 @@ module _ (limited : Bool) (o : GradientOptions) (a : Allowances) (x : List Float
 
   past_as : gradient_past_limits_of n o a limited ≡ past_limits fit
   unfolding gradient_past_limits_of
-  past_as = rw (excess_as a.iter, excess_as a.fevals) (go (ltb 16 n) iter_past fevals_past)
+  past_as = go (ltb 16 n) iter_past fevals_past
     where
       either : (s t : Bool) → cond s true t ≡ s || t
       either true t = refl
@@ -221,14 +221,13 @@ module _ (limited : Bool) (o : GradientOptions) (a : Allowances) (x : List Float
   abbrev fixed : Fixed
   fixed = gradient_fixed_of made
 
-  limit_low : n ≤ 16 → (b : Allowance) → excess (allowance_of b) ≡ false → limit_of b (200 * n) ≤ most_allowed
-  unfolding limit_of
-  limit_low h = by_given (λ b. excess (allowance_of b) ≡ false → limit_of b (200 * n) ≤ most_allowed) (λ k z. ltb-false most_allowed k z) (λ k z. omega arith)
+  limit_low : n ≤ 16 → (b : Option ℕ) → excess b ≡ false → unwrap_or b (200 * n) ≤ most_allowed
+  limit_low h (Some k) z = ltb-false most_allowed k z
+  limit_low h None z = omega arith
 
-  fevals_low : (b : Allowance) → excess (allowance_of b) ≡ false → (limit_of b no_limit ≡ no_limit) ⊎ (limit_of b no_limit ≤ most_allowed)
-  unfolding limit_of
-  fevals_low =
-      by_given (λ b. excess (allowance_of b) ≡ false → (limit_of b no_limit ≡ no_limit) ⊎ (limit_of b no_limit ≤ most_allowed)) (λ k z. inr (ltb-false most_allowed k z)) (λ k z. inl refl)
+  fevals_low : (b : Option ℕ) → excess b ≡ false → (unwrap_or b no_limit ≡ no_limit) ⊎ (unwrap_or b no_limit ≤ most_allowed)
+  fevals_low (Some k) z = inr (ltb-false most_allowed k z)
+  fevals_low None z = inl refl
 
   marked : (b : Bool) → gradient_job_of (gradient_mark_of b) ≡ true
   unfolding gradient_job_of gradient_mark_of
@@ -280,18 +279,19 @@ module _ (limited : Bool) (o : GradientOptions) (a : Allowances) (x : List Float
   unfolding gradient_limits_of
   iter_as = go limited a.iter
     where
-      go : (b : Bool) (c : Allowance) → or_default (allowance_of c) (default_iter (job_by b o) n) ≡ limit (limit_of c (200 * n))
+      go : (b : Bool) (c : Option ℕ) → or_default c (default_iter (job_by b o) n) ≡ limit (unwrap_or c (200 * n))
       go true = limit_as (200 * n)
       go false = limit_as (200 * n)
 
   fevals_as : AsLimit (limits_of fit).fevals made.limits.fevals
-  unfolding gradient_limits_of limit_of
+  unfolding gradient_limits_of
   fevals_as = go limited a.fevals
     where
-      none_as : (c : Allowance) → AsLimit (or_default (allowance_of c) unlimited) (limit_of c no_limit)
-      none_as = by_given (λ c. AsLimit (or_default (allowance_of c) unlimited) (limit_of c no_limit)) (λ k. refl) (λ k. refl)
+      none_as : (c : Option ℕ) → AsLimit (or_default c unlimited) (unwrap_or c no_limit)
+      none_as None = refl
+      none_as (Some k) = refl
 
-      go : (b : Bool) (c : Allowance) → AsLimit (or_default (allowance_of c) (default_fevals (job_by b o) n)) (limit_of c no_limit)
+      go : (b : Bool) (c : Option ℕ) → AsLimit (or_default c (default_fevals (job_by b o) n)) (unwrap_or c no_limit)
       go true = none_as
       go false = none_as
 

@@ -208,8 +208,8 @@ begun x n = go (ltb 16 (length x)) refl
 module _ (x : List Float) (n : NotRefused (differences_of x).0) where
   -- of any fit, at which neither looks
   same : (l : List Answer) → GivenF64s l
-      → Alike Record (Text (List Float)) (λ f. differences_of x) answer_code (λ f. begun_by differences_ending (differences as_told x)) (answer_by differences_ending) (sample 0) l
-  same l w = lists.same differences_ending Tied ties (differences_of x) (differences as_told x) (begun x n) n (sample 0) l w
+      → Alike Record (Text (List Float)) (λ f. differences_of x) answer_code (λ f. begun_by differences_ending (differences as_told x)) (answer_by differences_ending) sample l
+  same l w = lists.same differences_ending Tied ties (differences_of x) (differences as_told x) (begun x n) n sample l w
 
   reached : (l : List Answer) → (q : Text (List Float)) × Tied (differences_run x l).record_now q
   reached l = lists.reached differences_ending Tied ties (differences_of x) (differences as_told x) (begun x n) n l

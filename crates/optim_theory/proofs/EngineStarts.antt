@@ -18,11 +18,11 @@ use Rattle.vector.specs.Lists.{first, all_finite}
 use Rattle.vector.specs.Points.{from_slice_of, all_finite_of}
 use Rattle.vector.proofs.First.{point_laws, ties}
 use Rattle.vector.proofs.Stores.{first_whole}
-use Rattle.protocol.specs.declared.Allowance.{Allowance}
+use Rattle.std.specs.Prelude.{Option, None, Some, unwrap_or}
 use Rattle.protocol.specs.declared.Allowances.{Allowances}
 use Rattle.protocol.specs.declared.SimplexOptions.{SimplexOptions}
 use Rattle.protocol.specs.declared.Refusal.{Refusal}
-use Rattle.protocol.specs.Protocol.{refusal, Reply, simplex, Fit, allowance_of}
+use Rattle.protocol.specs.Protocol.{refusal, Reply, simplex, Fit}
 use Rattle.protocol.specs.Dialogue.{NotRefused}
 use Rattle.protocol.specs.Claim.{limit, or_default}
 use Rattle.protocol.specs.PastLimits.{excess}
@@ -37,7 +37,7 @@ use Rattle.optim_record.specs.declared.Record.{Record}
 use Rattle.optim_record.specs.Record.{most_allowed, blank_of, fixed_of}
 use Rattle.optim_reply.specs.Standing.{refused_of, standing_of}
 use Rattle.optim_reply.proofs.Says.{stands_keeps}
-use Rattle.optim_first_record.specs.Starts.{excess_of, past_limits_of, simplex_refusal_of, limit_of, simplex_limits_of, simplex_record_of}
+use Rattle.optim_first_record.specs.Starts.{past_limits_of, simplex_refusal_of, simplex_limits_of, simplex_record_of}
 use Rattle.optim_start.specs.Start.{simplex_of}
 use Rattle.optim_theory.proofs.EngineBounded.{start_within, opening_keeps}
 use Rattle.optim_theory.proofs.EngineRelated.{all_steps, Place, put_move, Sound, Relates, put_related}
@@ -92,22 +92,10 @@ positive_as : (t : Float) → not (positive_of t) ≡ not (positive_finite t)
 unfolding positive_of
 positive_as t = ap not (cond_and (lt plus_zero t) (finite_of t))
 
--- an allowance is given or absent, beside whatever count
-pub by_given : (P : Allowance → Type 0) → ((k : ℕ) → P (record { given = true; count = k })) → ((k : ℕ) → P (record { given = false; count = k })) → (a : Allowance) → P a
-by_given P given absent a = go a.given a.count
-  where
-    go : (b : Bool) (k : ℕ) → P (record { given = b; count = k })
-    go true k = given k
-    go false k = absent k
-
-pub excess_as : (a : Allowance) → excess_of a ≡ excess (allowance_of a)
-unfolding excess_of
-excess_as = by_given (λ a. excess_of a ≡ excess (allowance_of a)) (λ k. refl) (λ k. refl)
-
 -- a limit is the allowance, or its default d
-pub limit_as : (d : ℕ) (a : Allowance) → or_default (allowance_of a) (limit d) ≡ limit (limit_of a d)
-unfolding limit_of
-limit_as d = by_given (λ a. or_default (allowance_of a) (limit d) ≡ limit (limit_of a d)) (λ k. refl) (λ k. refl)
+pub limit_as : (d : ℕ) (a : Option ℕ) → or_default a (limit d) ≡ limit (unwrap_or a d)
+limit_as d None = refl
+limit_as d (Some k) = refl
 
 -- the point of sixteen coordinates is the list
 pub whole : (x : List Float) → first (length x) (from_slice_of x (length x)) ≡ x
@@ -117,11 +105,9 @@ pub finite_as : (x : List Float) → all_finite_of (from_slice_of x (length x)) 
 finite_as x = ties.all_finite_lem (from_slice_of x (length x)) (length x) ∙ ap all_finite (whole x)
 
 -- an allowance that is not refused, or its default, is low
-limit_low : (n restarts : ℕ) → n ≤ 16 → restarts ≤ 100 → (a : Allowance) → excess (allowance_of a) ≡ false → limit_of a (200 * n * (1 + restarts)) ≤ most_allowed
-unfolding limit_of
-limit_low n restarts h j =
-    by_given (λ a. excess (allowance_of a) ≡ false → limit_of a (200 * n * (1 + restarts)) ≤ most_allowed) (λ k e. ltb-false most_allowed k e)
-    (λ k e. low (200 * n * (1 + restarts)) (le_trans (mul-le-mul_right (1 + restarts) small) (mul-le-mul_left 3200 more)))
+limit_low : (n restarts : ℕ) → n ≤ 16 → restarts ≤ 100 → (a : Option ℕ) → excess a ≡ false → unwrap_or a (200 * n * (1 + restarts)) ≤ most_allowed
+limit_low n restarts h j (Some k) e = ltb-false most_allowed k e
+limit_low n restarts h j None e = low (200 * n * (1 + restarts)) (le_trans (mul-le-mul_right (1 + restarts) small) (mul-le-mul_left 3200 more))
   where
     small : 200 * n ≤ 3200
     small = omega arith
@@ -151,7 +137,7 @@ module _ (o : SimplexOptions) (a : Allowances) (x : List Float) where
   unfolding simplex_record_of simplex_limits_of
   allows = let default = 200 * n * (1 + o.restarts) in record { iter = limit_as default a.iter; fevals = limit_as default a.fevals }
 
-  made_sound : n ≤ 16 → 1 ≤ n → o.restarts ≤ 100 → excess (allowance_of a.iter) ≡ false → excess (allowance_of a.fevals) ≡ false → Sound made
+  made_sound : n ≤ 16 → 1 ≤ n → o.restarts ≤ 100 → excess a.iter ≡ false → excess a.fevals ≡ false → Sound made
   unfolding simplex_record_of simplex_limits_of from_slice_of
   made_sound small above few p q =
       record {
@@ -181,8 +167,7 @@ module _ (o : SimplexOptions) (a : Allowances) (x : List Float) where
   pub simplex_starts : Begun (simplex_of x o a) (start_at all_fits all_steps fit)
   unfolding simplex_of simplex_refusal_of past_limits_of
   simplex_starts =
-      rw (excess_as a.iter, excess_as a.fevals)
-      (refuse_two l (ltb 16 n) (excess (allowance_of a.iter)) (excess (allowance_of a.fevals)) (ltb 100 o.restarts) _ _ (opening_move o x)
+      refuse_two l (ltb 16 n) (excess a.iter) (excess a.fevals) (ltb 100 o.restarts) _ _ (opening_move o x)
       (λ long p q many.
       refuse l (not (tolerance_of o.xtol)) (not (tolerance o.xtol)) 4 1 _ _ _ (tolerance_as o.xtol) refl
       (λ xtol. refuse l (not (tolerance_of o.ftol)) (not (tolerance o.ftol)) 4 2 _ _ _ (tolerance_as o.ftol) refl
@@ -192,7 +177,6 @@ module _ (o : SimplexOptions) (a : Allowances) (x : List Float) where
       (λ finite. begins
       (made_sound (ltb-false 16 n long) (above n (eqb-false n 0 unknowns)) (ltb-false 100 o.restarts many) p q)
       (rw (xtol, ftol, step, unknowns, finite))))))))
-      )
     where
       l : FitLimits
       l = limits_of fit

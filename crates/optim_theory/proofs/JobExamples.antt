@@ -29,9 +29,9 @@ pub jobs_computed : JobsComputed
 unfolding to_bits of_bits of_fields of_int span climb size odd units round neg is_nan sum add sub mul div lt le eq values.abs_of values.finite_of
     values.tolerance_of values.positive_of values.max_of values.min_of order.precedes_of order.key_of points.from_slice_of points.inf_norm_of points.all_finite_of
     points.plus_scaled_of points.difference_of points.addition_of points.scaled_of points.dot_of lists.first protocol.read_of differences.difference_step differences.forward_of
-    differences.backward_of differences.slope_at objective.begun_of objective.probe_of objective.told_of records.gradient_job_of records.valid_simplex_of records.valid_of
-    stands.over_of stands.gradient_due_of stands.standing_simplex_of stands.standing_differences_of stands.standing_of firsts.begun_record_of firsts.excess_of
-    firsts.past_limits_of firsts.simplex_refusal_of firsts.limit_of firsts.simplex_limits_of firsts.simplex_record_of rules.repeats_of rules.suits_of answers.stepped_of
+    differences.backward_of differences.slope_at objective.begun_of objective.probe_of objective.told_of records.gradient_job_of records.valid_simplex_of records.valid_part_of records.valid_of
+    stands.over_of stands.gradient_due_of stands.standing_simplex_of stands.standing_differences_of stands.standing_of firsts.begun_record_of
+    firsts.past_limits_of firsts.simplex_refusal_of firsts.simplex_limits_of firsts.simplex_record_of rules.repeats_of rules.suits_of answers.stepped_of
     answers.taken_of answers.heard_of answers.answer_of starts.differences_of starts.simplex_of vertex_order.in_order method.beta method.gamma method.delta
     method.displaced method.resolution method.better vertices.put_of vertices.inserted_of vertices.sorted_of vertices.corner_of vertices.any_finite_of
     trials.start_of trials.armijo_of trials.curvature_of lines.line_from_of lines.options_refusal_of lines.counts_refusal_of lines.line_refusal_of linesearch.point_at_of

@@ -183,6 +183,6 @@ pub lengths : Lengths
 lengths =
     record {
       fits = λ f l s. let t = fit_starts f.job f.x0 f.allowances in from_start start_code (length f.x0) f l t.0 t.1 s;
-      search = λ s l n. from_start (λ f. search_code s) (length s.x) (sample 0) l (search_begins s) (search_points s) n;
-      differences = λ x l n. from_start (λ f. differences_of x) (length x) (sample 0) l (differences_begins x) (differences_points x) n;
+      search = λ s l n. from_start (λ f. search_code s) (length s.x) sample l (search_begins s) (search_points s) n;
+      differences = λ x l n. from_start (λ f. differences_of x) (length x) sample l (differences_begins x) (differences_points x) n;
     }

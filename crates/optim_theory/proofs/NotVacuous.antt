@@ -7,7 +7,8 @@ use Rattle.float.specs.Binary64.{◌⊕◌, ◌⊗◌}
 use Rattle.protocol.specs.declared.Kind.{Kind}
 use Rattle.protocol.specs.declared.Kind.TheVariants.{Value, Gradient}
 use Rattle.protocol.specs.Dialogue.{run, Started}
-use Rattle.protocol.specs.Example.{Reaches, Pair, given, absent}
+use Rattle.std.specs.Prelude.{None, Some}
+use Rattle.protocol.specs.Example.{Reaches, Pair}
 use Rattle.protocol.proofs.NotVacuous.{of_one, of_two_lem, AnsweredBy, one_objective, third, fifth, word}
 use Rattle.float.specs.Values as values
 use Rattle.vector.specs.Points as points
@@ -49,11 +50,11 @@ square k (x ∷ xs) = square_at k x ∷ []
 -- the runs, that their starts are not refused, and that the runs of bfgs are told x²
 record Facts : Type 0 where
   runs : Computed
-  simplex_starts : (k : ℕ) → Started code (sample k)
-  bfgs_starts : Started code (dense (absent 0))
+  simplex_starts : Started code sample
+  bfgs_starts : Started code (dense None)
   lbfgs_starts : Started code limited
-  stopped_starts : Started code (dense (given 0))
-  squares : AnsweredBy square ((run code (dense (given 0)) opening_answers).exchanges ++ (run code (dense (absent 0)) whole_answers).exchanges)
+  stopped_starts : Started code (dense (Some 0))
+  squares : AnsweredBy square ((run code (dense (Some 0)) opening_answers).exchanges ++ (run code (dense None) whole_answers).exchanges)
 
 facts : Facts
 unfolding to_bits of_bits of_fields of_int span climb size odd units round neg is_nan sum add sub mul div lt le eq values.abs_of values.finite_of
@@ -61,9 +62,9 @@ unfolding to_bits of_bits of_fields of_int span climb size odd units round neg i
     points.plus_scaled_of points.minus_scaled_of points.difference_of points.addition_of points.quotient_of points.scaled_of points.negation_of
     points.towards_of points.row_dot_of points.mat_vec_of lists.first protocol.read_of records.wolfe_options_of records.idle_of records.blank_of
     records.gradient_job_of records.valid_simplex_of records.valid_search_part_of records.known_refusal_of records.valid_ending_of records.valid_options_of
-    records.valid_model_of records.valid_descent_of records.valid_of stands.over_of stands.gradient_due_of stands.termination_of stands.result_of
+    records.valid_model_of records.valid_descent_of records.valid_part_of records.valid_of stands.over_of stands.gradient_due_of stands.termination_of stands.result_of
     stands.standing_simplex_of stands.descent_termination_of stands.descent_converged_of stands.descent_result_of stands.standing_descent_of stands.standing_of
-    firsts.excess_of firsts.past_limits_of firsts.simplex_refusal_of firsts.limit_of firsts.simplex_limits_of firsts.simplex_record_of
+    firsts.past_limits_of firsts.simplex_refusal_of firsts.simplex_limits_of firsts.simplex_record_of
     firsts.gradient_past_limits_of firsts.ordered_of firsts.no_memory_of firsts.gradient_refusal_of firsts.gradient_limits_of firsts.kept_options_of
     firsts.gradient_mark_of firsts.gradient_record_of rules.repeats_of answers.stepped_of answers.graded_of answers.taken_of answers.taken_gradient_of
     rules.suits_of answers.heard_of answers.answer_of starts.simplex_of starts.gradient_of starts.bfgs_of starts.lbfgs_of vertex_order.in_order method.beta
@@ -83,8 +84,8 @@ unfolding to_bits of_bits of_fields of_int span climb size odd units round neg i
     quasinewton.graded_of quasinewton.valued_of quasinewton.probe_of quasinewton.told_of quasinewton.told_gradient_of quasinewton.idle_of quasinewton.start_of
 facts =
     record {
-      runs = record { simplex_run = λ k. refl; non_finite_run = refl; bfgs_run = refl; lbfgs_run = refl; stopped_run = refl };
-      simplex_starts = λ k. tt;
+      runs = record { simplex_run = refl; non_finite_run = refl; bfgs_run = refl; lbfgs_run = refl; stopped_run = refl };
+      simplex_starts = tt;
       bfgs_starts = tt;
       lbfgs_starts = tt;
       stopped_starts = tt;
@@ -96,19 +97,19 @@ computed = facts.runs
 
 -- ---- the hypotheses
 
-simplex_reaches : (k : ℕ) → Reaches code (sample k) sample_answers sample_result
-simplex_reaches k =
-    record { started = facts.simplex_starts k; given = (word two, (word one, tt)); brings = rw (computed.simplex_run k) third }
+simplex_reaches : Reaches code sample sample_answers sample_result
+simplex_reaches =
+    record { started = facts.simplex_starts; given = (word two, (word one, tt)); brings = rw computed.simplex_run third }
 
-non_finite_reaches : Reaches code (sample 0) non_finite_answers non_finite_result
+non_finite_reaches : Reaches code sample non_finite_answers non_finite_result
 non_finite_reaches =
     record {
-      started = facts.simplex_starts 0;
+      started = facts.simplex_starts;
       given = (word a_na_n, (word one, (word minus_infinity, (word one, tt))));
       brings = rw computed.non_finite_run fifth;
     }
 
-bfgs_reaches : Reaches code (dense (absent 0)) whole_answers whole_result
+bfgs_reaches : Reaches code (dense None) whole_answers whole_result
 bfgs_reaches =
     record {
       started = facts.bfgs_starts;
@@ -124,12 +125,12 @@ lbfgs_reaches =
       brings = rw computed.lbfgs_run fifth;
     }
 
-stopped_reaches : Reaches code (dense (given 0)) opening_answers stopped_result
+stopped_reaches : Reaches code (dense (Some 0)) opening_answers stopped_result
 stopped_reaches =
     record { started = facts.stopped_starts; given = (word one, (word two, tt)); brings = rw computed.stopped_run third }
 
 -- the first stops for an allowance that is then raised
-raised : Pair code (dense (given 0)) (dense (absent 0)) opening_answers whole_answers stopped_result whole_result
+raised : Pair code (dense (Some 0)) (dense None) opening_answers whole_answers stopped_result whole_result
 raised =
     record {
       first = stopped_reaches;
@@ -148,7 +149,7 @@ not_vacuous =
       bfgs_reaches = bfgs_reaches;
       lbfgs_reaches = lbfgs_reaches;
       raised = raised;
-      simplex_one = λ k. of_one code_claim (simplex_reaches k);
+      simplex_one = of_one code_claim simplex_reaches;
       non_finite_one = of_one code_claim non_finite_reaches;
       raised_two = of_two_lem code_claim raised;
     }

@@ -21,7 +21,7 @@ use Rattle.quasinewton.specs.Step.{by_refusal, Moved}
 use Rattle.optim_record.specs.declared.Record.{Record}
 use Rattle.linesearch.specs.Step as linesearch
 use Rattle.linesearch.specs.Step.{asks_gradient, asks_difference}
-use Rattle.optim_record.specs.Record.{last_asking, fixed_of, search_fixed_of, gradient_fixed_of, gradient_job_of, known_refusal_of, valid_ending_of, blank_of, valid_of}
+use Rattle.optim_record.specs.Record.{last_asking, fixed_of, search_fixed_of, gradient_fixed_of, gradient_job_of, known_refusal_of, valid_ending_of, blank_of, valid_part_of, valid_of}
 use Rattle.optim_record.specs.Refusal1.{OneOf, EndingMark}
 use Rattle.optim_record.proofs.Refusal1Parts.{known, ending_part}
 use Rattle.optim_record.proofs.Refusal1.{in_range}
@@ -219,7 +219,7 @@ unfolding answer_of
 out_of_range r number kind words e = rw e
 
 blank_refused : valid_of blank_of ≡ false
-unfolding valid_of blank_of gradient_job_of
+unfolding valid_of valid_part_of blank_of gradient_job_of
 blank_refused = refl
 
 pub answers : Answers

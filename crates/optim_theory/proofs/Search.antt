@@ -16,7 +16,8 @@ use Rattle.protocol.specs.Dialogue.{question_in, accepted, GivenF64s, NotRefused
 use Rattle.protocol.specs.Bounds.{questions_of}
 use Rattle.protocol.proofs.Bounds.{all_questions}
 use Rattle.protocol.specs.Follow.{Alike}
-use Rattle.protocol.specs.Example.{absent, sample}
+use Rattle.std.specs.Prelude.{None}
+use Rattle.protocol.specs.Example.{sample}
 use Rattle.linesearch_theory.specs.Algorithm.{Searched, refuses, gives, strong_wolfe}
 use Rattle.linesearch_theory.specs.Counts.{per_trial}
 use Rattle.optim_record.specs.declared.Record.{Record}
@@ -42,7 +43,7 @@ begun s n = go (search_past_limits s) refl
 module _ (s : SearchStart) (n : NotRefused (search_code s).0) where
   -- a fit, which none of the two looks at
   any : Fit
-  any = sample (absent 0)
+  any = sample None
 
   same : (l : List Answer) → GivenF64s l → Alike Record (Text Searched) (λ f. search_code s) answer_code (λ f. begun_by search_ending (search_text s)) (answer_by search_ending) any l
   same l w = lists.same search_ending Relates ties (search_code s) (search_text s) (begun s n) n any l w

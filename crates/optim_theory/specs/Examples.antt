@@ -1,8 +1,7 @@
 -- Lists of answers that the code's definitions compute to their results: 01's sample, a simplex fit that is told a NaN and -infinity, a short run of bfgs and one of lbfgs, and a run of bfgs
 -- that stops for an allowance, which is then raised. They meet every hypothesis of the mission's 3. Definitions and statements only.
-use Rattle.std.specs.Prelude.{ℕ, ◌≡◌, true, false, List, [], ◌∷◌}
+use Rattle.std.specs.Prelude.{ℕ, ◌≡◌, true, false, Option, None, Some, List, [], ◌∷◌}
 use Rattle.float.specs.Binary64.{bits}
-use Rattle.protocol.specs.declared.Allowance.{Allowance}
 use Rattle.protocol.specs.declared.Kind.{Kind}
 use Rattle.protocol.specs.declared.Kind.TheVariants.{Value, Gradient}
 use Rattle.protocol.specs.declared.GradientOptions.{GradientOptions}
@@ -10,7 +9,7 @@ use Rattle.protocol.specs.declared.Termination.TheVariants.{GradientTolerance, S
 use Rattle.protocol.specs.Protocol.{letter, Answer, Result, fitted, Reply, ask, ended, Job, simplex, bfgs, lbfgs, Fit}
 use Rattle.protocol.specs.Dialogue.{run}
 use Rattle.protocol.specs.Claim.{OfOne, OfTwo}
-use Rattle.protocol.specs.Example.{Reaches, Pair, given, absent}
+use Rattle.protocol.specs.Example.{Reaches, Pair}
 use Rattle.optim_theory.specs.Engine.{code}
 
 -- a question of one coordinate, and an answer of one word
@@ -45,13 +44,13 @@ a_na_n = 0x7FF8_0000_0000_0000
 abbrev pub minus_infinity : ℕ
 minus_infinity = 0xFFF0_0000_0000_0000
 
--- ---- 01's sample, whose allowances are absent; k is the count that stands beside each
+-- ---- 01's sample, whose allowances are absent
 
-abbrev pub sample : ℕ → Fit
-sample k =
+abbrev pub sample : Fit
+sample =
     record {
       job = simplex (record { xtol = bits one; ftol = bits one; step = bits half; restarts = 0; adaptive = true });
-      allowances = record { iter = absent k; fevals = absent k };
+      allowances = record { iter = None; fevals = None };
       x0 = bits one ∷ [];
     }
 
@@ -89,14 +88,14 @@ options =
     }
 
 -- with the max_iter a: absent, it is 200; max_fevals is absent, which is no limit
-abbrev gradient_fit : Job → Allowance → Fit
-gradient_fit j a = record { job = j; allowances = record { iter = a; fevals = absent 0 }; x0 = bits one ∷ [] }
+abbrev gradient_fit : Job → Option ℕ → Fit
+gradient_fit j a = record { job = j; allowances = record { iter = a; fevals = None }; x0 = bits one ∷ [] }
 
-abbrev pub dense : Allowance → Fit
+abbrev pub dense : Option ℕ → Fit
 dense a = gradient_fit (bfgs options) a
 
 abbrev pub limited : Fit
-limited = gradient_fit (lbfgs options) (absent 0)
+limited = gradient_fit (lbfgs options) None
 
 abbrev pub opening_answers : List Answer
 opening_answers = tells 1 Value one ∷ tells 2 Gradient two ∷ []
@@ -120,19 +119,19 @@ whole_replies = asks 1 Value one ∷ asks 2 Gradient one ∷ asks 3 Value zero �
 
 -- computed on `simplex_of`, `bfgs_of`, `lbfgs_of` and `answer_of`
 pub record Computed : Type 0 where
-  pub simplex_run : (k : ℕ) → (run code (sample k) sample_answers).replies ≡ sample_replies
-  pub non_finite_run : (run code (sample 0) non_finite_answers).replies ≡ non_finite_replies
-  pub bfgs_run : (run code (dense (absent 0)) whole_answers).replies ≡ whole_replies
+  pub simplex_run : (run code sample sample_answers).replies ≡ sample_replies
+  pub non_finite_run : (run code sample non_finite_answers).replies ≡ non_finite_replies
+  pub bfgs_run : (run code (dense None) whole_answers).replies ≡ whole_replies
   pub lbfgs_run : (run code limited whole_answers).replies ≡ whole_replies
-  pub stopped_run : (run code (dense (given 0)) opening_answers).replies ≡ stopped_replies
+  pub stopped_run : (run code (dense (Some 0)) opening_answers).replies ≡ stopped_replies
 
 -- they meet the hypotheses of both parts, which so hold of them
 pub record NotVacuous : Type 0 where
-  pub simplex_reaches : (k : ℕ) → Reaches code (sample k) sample_answers sample_result
-  pub non_finite_reaches : Reaches code (sample 0) non_finite_answers non_finite_result
-  pub bfgs_reaches : Reaches code (dense (absent 0)) whole_answers whole_result
+  pub simplex_reaches : Reaches code sample sample_answers sample_result
+  pub non_finite_reaches : Reaches code sample non_finite_answers non_finite_result
+  pub bfgs_reaches : Reaches code (dense None) whole_answers whole_result
   pub lbfgs_reaches : Reaches code limited whole_answers whole_result
-  pub raised : Pair code (dense (given 0)) (dense (absent 0)) opening_answers whole_answers stopped_result whole_result
-  pub simplex_one : (k : ℕ) → OfOne (sample k) (run code (sample k) sample_answers).exchanges sample_result
-  pub non_finite_one : OfOne (sample 0) (run code (sample 0) non_finite_answers).exchanges non_finite_result
-  pub raised_two : OfTwo (run code (dense (given 0)) opening_answers) stopped_result (run code (dense (absent 0)) whole_answers) whole_result
+  pub raised : Pair code (dense (Some 0)) (dense None) opening_answers whole_answers stopped_result whole_result
+  pub simplex_one : OfOne sample (run code sample sample_answers).exchanges sample_result
+  pub non_finite_one : OfOne sample (run code sample non_finite_answers).exchanges non_finite_result
+  pub raised_two : OfTwo (run code (dense (Some 0)) opening_answers) stopped_result (run code (dense None) whole_answers) whole_result

@@ -61,4 +61,4 @@ pub record JobsComputed : Type 0 where
   pub search_given : GivenF64s along_answers
   pub search_run : (code_run along along_answers).replies ≡ along_replies
   pub infinite_given : GivenF64s infinite_answers
-  pub infinite_run : (run code (sample 0) infinite_answers).replies ≡ infinite_replies
+  pub infinite_run : (run code sample infinite_answers).replies ≡ infinite_replies

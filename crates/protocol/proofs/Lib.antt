@@ -1,6 +1,7 @@
 pub mod Readings
 pub mod Texts
 pub mod Replies
+pub mod Refusals
 pub mod EngineOne
 pub mod EngineClaim
 pub mod RoundsCalls

@@ -16,7 +16,8 @@ use Rattle.protocol.specs.Dialogue.{Exchange, F64s, GivenF64s, run}
 use Rattle.protocol.specs.Claim.{ByPointAlone, OfOne, OfTwo, Claim}
 use Rattle.protocol.specs.Ask.{◌>>=◌}
 use Rattle.protocol.specs.Rounds.{engine}
-use Rattle.protocol.specs.Example.{example, Reaches, Pair, one, half, quarter, eighth, given, absent, sample, question_for, short_answers, short_result, long_answers, long_result, plain_answers}
+use Rattle.std.specs.Prelude.{Some, None}
+use Rattle.protocol.specs.Example.{example, Reaches, Pair, one, half, quarter, eighth, sample, question_for, short_answers, short_result, long_answers, long_result, plain_answers}
 use Rattle.protocol.proofs.ExampleLaws.{example_claim}
 
 -- ---- the hypotheses suffice
@@ -52,11 +53,11 @@ own k x = x
 
 -- ---- what each list is replied
 
-short_replies : (run (engine example) (sample (given 1)) short_answers).replies ≡ ask (question_for 1 one) ∷ ask (question_for 2 half) ∷ ended (fitted short_result) ∷ []
+short_replies : (run (engine example) (sample (Some 1)) short_answers).replies ≡ ask (question_for 1 one) ∷ ask (question_for 2 half) ∷ ended (fitted short_result) ∷ []
 unfolding of_bits mul lt finite_of read_of ◌>>=◌
 short_replies = refl
 
-long_replies : (run (engine example) (sample (given 5)) long_answers).replies
+long_replies : (run (engine example) (sample (Some 5)) long_answers).replies
     ≡ ask (question_for 1 one)
     ∷ ask (question_for 2 half)
     ∷ ask (question_for 2 half)
@@ -69,7 +70,7 @@ unfolding of_bits mul lt finite_of read_of ◌>>=◌
 long_replies = refl
 
 -- max_iter is absent, and the 1 beside it is not looked at
-plain_replies : (run (engine example) (sample (absent 1)) plain_answers).replies
+plain_replies : (run (engine example) (sample None) plain_answers).replies
     ≡ ask (question_for 1 one) ∷ ask (question_for 2 half) ∷ ask (question_for 3 quarter) ∷ ask (question_for 4 eighth) ∷ ended (fitted long_result) ∷ []
 unfolding of_bits mul lt finite_of read_of ◌>>=◌
 plain_replies = refl
@@ -89,11 +90,11 @@ third = Memᴰ.tail (Memᴰ.tail (Memᴰ.head refl))
 pub fifth : {A : Type 0} {a b c d e : A} → Memᴰ e (a ∷ b ∷ c ∷ d ∷ e ∷ [])
 fifth = Memᴰ.tail (Memᴰ.tail (Memᴰ.tail (Memᴰ.tail (Memᴰ.head refl))))
 
-short_reaches : Reaches (engine example) (sample (given 1)) short_answers short_result
+short_reaches : Reaches (engine example) (sample (Some 1)) short_answers short_result
 unfolding ◌>>=◌
 short_reaches = record { started = tt; given = (word one, (word half, tt)); brings = rw short_replies third }
 
-long_reaches : Reaches (engine example) (sample (given 5)) long_answers long_result
+long_reaches : Reaches (engine example) (sample (Some 5)) long_answers long_result
 unfolding ◌>>=◌
 long_reaches =
     record {
@@ -102,22 +103,22 @@ long_reaches =
       brings = rw long_replies (Memᴰ.tail (Memᴰ.tail (Memᴰ.tail (Memᴰ.tail (Memᴰ.tail (Memᴰ.tail (Memᴰ.head refl)))))));
     }
 
-plain_reaches : Reaches (engine example) (sample (absent 1)) plain_answers long_result
+plain_reaches : Reaches (engine example) (sample None) plain_answers long_result
 unfolding ◌>>=◌
 plain_reaches = record { started = tt; given = plain_given; brings = rw plain_replies fifth }
 
 -- ---- the second part's
 
-short_long_own : AnsweredBy own ((run (engine example) (sample (given 1)) short_answers).exchanges ++ (run (engine example) (sample (given 5)) long_answers).exchanges)
+short_long_own : AnsweredBy own ((run (engine example) (sample (Some 1)) short_answers).exchanges ++ (run (engine example) (sample (Some 5)) long_answers).exchanges)
 unfolding of_bits mul lt finite_of read_of ◌>>=◌
 short_long_own = (refl, (refl, (refl, (refl, (refl, (refl, tt))))))
 
-long_plain_own : AnsweredBy own ((run (engine example) (sample (given 5)) long_answers).exchanges ++ (run (engine example) (sample (absent 1)) plain_answers).exchanges)
+long_plain_own : AnsweredBy own ((run (engine example) (sample (Some 5)) long_answers).exchanges ++ (run (engine example) (sample None) plain_answers).exchanges)
 unfolding of_bits mul lt finite_of read_of ◌>>=◌
 long_plain_own = (refl, (refl, (refl, (refl, (refl, (refl, (refl, (refl, tt))))))))
 
 -- the first stops for an allowance that is then raised
-pub raised : Pair (engine example) (sample (given 1)) (sample (given 5)) short_answers long_answers short_result long_result
+pub raised : Pair (engine example) (sample (Some 1)) (sample (Some 5)) short_answers long_answers short_result long_result
 raised =
     record {
       first = short_reaches;
@@ -127,7 +128,7 @@ raised =
     }
 
 -- the first stops for a reason of its own
-pub own_end : Pair (engine example) (sample (given 5)) (sample (absent 1)) long_answers plain_answers long_result long_result
+pub own_end : Pair (engine example) (sample (Some 5)) (sample None) long_answers plain_answers long_result long_result
 own_end =
     record {
       first = long_reaches;
@@ -138,11 +139,11 @@ own_end =
 
 -- ---- the two parts hold of them
 
-pub short_one : OfOne (sample (given 1)) (run (engine example) (sample (given 1)) short_answers).exchanges short_result
+pub short_one : OfOne (sample (Some 1)) (run (engine example) (sample (Some 1)) short_answers).exchanges short_result
 short_one = of_one example_claim short_reaches
 
-pub raised_two : OfTwo (run (engine example) (sample (given 1)) short_answers) short_result (run (engine example) (sample (given 5)) long_answers) long_result
+pub raised_two : OfTwo (run (engine example) (sample (Some 1)) short_answers) short_result (run (engine example) (sample (Some 5)) long_answers) long_result
 raised_two = of_two_lem example_claim raised
 
-pub own_end_two : OfTwo (run (engine example) (sample (given 5)) long_answers) long_result (run (engine example) (sample (absent 1)) plain_answers) long_result
+pub own_end_two : OfTwo (run (engine example) (sample (Some 5)) long_answers) long_result (run (engine example) (sample None) plain_answers) long_result
 own_end_two = of_two_lem example_claim own_end

@@ -5,15 +5,14 @@
 --   and the results are equal where the first stopped for anything but an allowance."
 -- Its words stand first, each beside the words of 01 that fix it; `Claim`, at the end, is the sentence (`one`, `two`), with what every single call along a list replies (`starts`, `calls`).
 -- Definitions only.
-use Rattle.std.specs.Prelude.{◌≡◌, ℕ, ◌+◌, ◌*◌, ◌≤◌, length, Float}
+use Rattle.std.specs.Prelude.{◌≡◌, ℕ, ◌+◌, ◌*◌, ◌≤◌, Option, None, Some, length, Float}
 use mathlib.Core.List.{List, ◌++◌, Memᴰ}
-use Rattle.std.proofs.Math.Option.{Option, none, some}
 use Rattle.float.specs.Binary64.{NotAbove}
 use Rattle.float.specs.Values.{Finite}
 use Rattle.protocol.specs.declared.Kind.TheVariants.{Value, Gradient}
 use Rattle.protocol.specs.declared.Termination.{Termination}
 use Rattle.protocol.specs.declared.Termination.TheVariants.{GradientTolerance, SimplexTolerance, StepTolerance, FunctionTolerance, MaxIterations, MaxFevals, LineSearchFailed, GradientFailed, ObjectiveResolution}
-use Rattle.protocol.specs.Protocol.{Question, Answer, Result, read_of, Job, simplex, bfgs, lbfgs, Fit, allowance_of, Engine}
+use Rattle.protocol.specs.Protocol.{Question, Answer, Result, read_of, Job, simplex, bfgs, lbfgs, Fit, Engine}
 use Rattle.protocol.specs.Dialogue.{F64s, GivenF64s, Exchange, Dialogue, run, Started, Brings, Told, answers_of}
 use Rattle.protocol.specs.Calls.{Numbered, OfCall}
 
@@ -39,8 +38,8 @@ unlimited ⊑ limit n = ⊥
 unlimited ⊑ unlimited = Unit {0}
 
 abbrev pub or_default : Option ℕ → Limit → Limit
-or_default none d = d
-or_default (some k) d = limit k
+or_default None d = d
+or_default (Some k) d = limit k
 
 -- simplex: "absent, each is 200·n·(1+restarts)"; gradient fits: "max_iter (absent: 200·n), max_fevals (absent: none)"
 abbrev pub default_iter : Job → ℕ → Limit
@@ -54,10 +53,10 @@ default_fevals (bfgs o) n = unlimited
 default_fevals (lbfgs o) n = unlimited
 
 abbrev pub iter_allowance : Fit → Limit
-iter_allowance f = or_default (allowance_of f.allowances.iter) (default_iter f.job (length f.x0))
+iter_allowance f = or_default f.allowances.iter (default_iter f.job (length f.x0))
 
 abbrev pub fevals_allowance : Fit → Limit
-fevals_allowance f = or_default (allowance_of f.allowances.fevals) (default_fevals f.job (length f.x0))
+fevals_allowance f = or_default f.allowances.fevals (default_fevals f.job (length f.x0))
 
 -- "Run again, a fit starts alike in all but max_iter and max_fevals", with neither lowered
 pub record RunsAgain (first second : Fit) : Type 0 where

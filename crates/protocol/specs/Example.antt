@@ -1,10 +1,9 @@
 -- A fit as small as can be that still descends: a round halves the first coordinate and takes the point where its value is less. The claim and the laws are tried on it before
 -- any algorithm stands. Every job is this fit, and no option is looked at but by refusal 2. Below it, three lists of answers to it, and what they come to. Definitions only.
-use Rattle.std.specs.Prelude.{ℕ, suc, Bool, true, false, cond, List, [], ◌∷◌, ◌++◌, leb, Float}
+use Rattle.std.specs.Prelude.{ℕ, suc, Bool, true, false, cond, Option, None, List, [], ◌∷◌, ◌++◌, leb, Float}
 use Rattle.std.specs.Float.Ieee.{lt}
 use Rattle.float.specs.Binary64.{bits, ◌⊗◌}
 use Rattle.float.specs.Values.{finite_of}
-use Rattle.protocol.specs.declared.Allowance.{Allowance}
 use Rattle.protocol.specs.declared.Kind.TheVariants.{Value}
 use Rattle.protocol.specs.declared.Termination.{Termination}
 use Rattle.protocol.specs.declared.Termination.TheVariants.{SimplexTolerance, MaxIterations}
@@ -92,23 +91,16 @@ quarter = 0x3FD0_0000_0000_0000
 abbrev pub eighth : ℕ
 eighth = 0x3FC0_0000_0000_0000
 
--- an allowance of k, and an absent one beside which k stands
-abbrev pub given : ℕ → Allowance
-given k = record { given = true; count = k }
-
-abbrev pub absent : ℕ → Allowance
-absent k = record { given = false; count = k }
-
 -- the fit with the max_iter a
-abbrev pub sample : Allowance → Fit
+abbrev pub sample : Option ℕ → Fit
 sample a = record {
   job = simplex (record { xtol = bits half; ftol = bits half; step = bits half; restarts = 0; adaptive = true });
-  allowances = record { iter = a; fevals = absent 0 };
+  allowances = record { iter = a; fevals = None };
   x0 = bits one ∷ [];
 }
 
 -- the same as a gradient fit, with the max_fevals a: an absent one is no limit here
-abbrev pub gradient_sample : Allowance → Fit
+abbrev pub gradient_sample : Option ℕ → Fit
 gradient_sample a = record {
   job = bfgs (record {
     gradtol = bits half;
@@ -118,7 +110,7 @@ gradient_sample a = record {
     memory = 0;
     gradients = false;
   });
-  allowances = record { iter = absent 0; fevals = a };
+  allowances = record { iter = None; fevals = a };
   x0 = bits one ∷ [];
 }
 

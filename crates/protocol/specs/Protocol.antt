@@ -1,6 +1,6 @@
 -- Questions, answers, replies, results and fits, in 01's words. Definitions only.
 -- Points and words are lists of `Float`s, of which one is `nan`: those that differ only in NaN bits are equal here.
-use Rattle.std.specs.Prelude.{ℕ, Bool, true, false, cond, List, Float}
+use Rattle.std.specs.Prelude.{ℕ, Bool, true, false, cond, List, eqb, Float, Ok, Err, Result as OkOrErr}
 use Rattle.std.proofs.Math.Option.{Option, none, some}
 use Rattle.std.specs.Float.{inf}
 use Rattle.float.specs.Values.{finite_of}
@@ -9,7 +9,6 @@ use Rattle.protocol.specs.declared.Kind.{Kind}
 use Rattle.protocol.specs.declared.Kind.TheVariants.{Value, Gradient}
 use Rattle.protocol.specs.declared.Termination.{Termination}
 use Rattle.protocol.specs.declared.Termination.TheVariants.{GradientTolerance, SimplexTolerance, StepTolerance, FunctionTolerance, MaxIterations, MaxFevals, LineSearchFailed, GradientFailed, ObjectiveResolution}
-use Rattle.protocol.specs.declared.Allowance.{Allowance}
 use Rattle.protocol.specs.declared.Allowances.{Allowances}
 use Rattle.protocol.specs.declared.SimplexOptions.{SimplexOptions}
 use Rattle.protocol.specs.declared.GradientOptions.{GradientOptions}
@@ -100,6 +99,10 @@ refusal number detail = record { number = number; detail = detail }
 abbrev pub no_refusal : Refusal
 no_refusal = refusal 0 0
 
+-- the tests of a start, as the code makes them: Ok where none is failed
+unfoldable pub as_result : Refusal → OkOrErr (Unit {0}) Refusal
+as_result r = cond (eqb r.number 0) (Ok tt) (Err r)
+
 -- What the code says, with its point x and gradient g of which the first n coordinates count, as a reply.
 unfoldable pub reply_of : Said → ℕ → List Float → List Float → Reply
 reply_of (Ask k κ) n x g = ask (record { number = k; kind = κ; point = first n x })
@@ -107,7 +110,7 @@ reply_of (Fitted s) n x g =
     ended (fitted (record { reason = s.reason; converged = s.converged; iterations = s.iterations; fevals = s.fevals; gevals = s.gevals; f = s.f; x = first n x }))
 reply_of (Searched s) n x g = ended (searched (record { success = s.success; step = s.step; f = s.f; x = first n x; gradient = first n g; trials = s.trials }))
 reply_of Differenced n x g = ended (differenced (first n g))
-reply_of (Refused k d) n x g = refused k d
+reply_of (Refused r) n x g = refused r.number r.detail
 
 -- "In fits `Counted` reads any non-finite value as +infinity."
 unfoldable pub read_of : Float → Float
@@ -125,10 +128,6 @@ pub record Fit : Type 0 where
   pub job : Job
   pub allowances : Allowances
   pub x0 : List Float
-
--- An allowance is a number or absent: the count beside `given` false, which may be any, is not looked at.
-abbrev pub allowance_of : Allowance → Option ℕ
-allowance_of a = cond a.given (some a.count) none
 
 -- An engine of fits: its two calls. Each returns a reply and a record; of a refused start the record means nothing.
 pub record Engine : Type 1 where

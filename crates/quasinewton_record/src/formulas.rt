@@ -8,6 +8,7 @@ const CURVATURE: f64 = 1e-12;
 const LEAST: f64 = 1e-30;
 
 // Whether the pair (s, y) is taken into the model.
+#[tactic(auto, unfolding(crate::specs::Formulas::stores_of))]
 pub fn stores(s: [f64; 16], y: [f64; 16], n: usize) -> bool
     requires { n ≤ 16 }
     ensures { result ≡ stores_of s y n }
@@ -16,44 +17,40 @@ pub fn stores(s: [f64; 16], y: [f64; 16], n: usize) -> bool
 }
 
 // f_tol, which acts only above 0.
+#[tactic(auto, unfolding(crate::specs::Formulas::small_decrease_of))]
 pub fn small_decrease(ftol: f64, before: f64, now: f64) -> bool
     ensures { result ≡ small_decrease_of ftol before now }
 {
-    if ftol > 0.0 {
-        return before - now <= ftol * float::max(float::abs(now), 1.0);
-    }
-    false
+    ftol > 0.0 && before - now <= ftol * float::max(float::abs(now), 1.0)
 }
 
 // x_tol, which acts only above 0.
+#[tactic(auto, unfolding(crate::specs::Formulas::small_step_of))]
 pub fn small_step(xtol: f64, before: [f64; 16], now: [f64; 16], n: usize) -> bool
     requires { n ≤ 16 }
     ensures { result ≡ small_step_of xtol before now n }
 {
-    if xtol > 0.0 {
-        let s = vector::difference(now, before, n);
-        return vector::inf_norm(s, n) <= xtol * float::max(vector::inf_norm(now, n), 1.0);
-    }
-    false
+    xtol > 0.0
+        && vector::inf_norm(vector::difference(now, before, n), n)
+            <= xtol * float::max(vector::inf_norm(now, n), 1.0)
 }
 
 // The step at which a search starts: 1, or in a fit's first search 1 / |d| where that is less.
+#[tactic(auto, unfolding(crate::specs::Formulas::initial_step_of))]
 pub fn initial_step(first: bool, d: [f64; 16], n: usize) -> f64
     requires { n ≤ 16 }
     ensures { result ≡ initial_step_of first d n }
 {
-    if first {
-        return float::min(1.0 / float::max(vector::inf_norm(d, n), LEAST), 1.0);
+    if !first {
+        return 1.0;
     }
-    1.0
+    float::min(1.0 / float::max(vector::inf_norm(d, n), LEAST), 1.0)
 }
 
 // Whether a slope is not finite or not below 0.
+#[tactic(auto, unfolding(crate::specs::Formulas::not_descending_of))]
 pub fn not_descending(slope: f64) -> bool
     ensures { result ≡ not_descending_of slope }
 {
-    if slope >= 0.0 {
-        return true;
-    }
-    !float::is_finite(slope)
+    slope >= 0.0 || !float::is_finite(slope)
 }

@@ -2,6 +2,7 @@
 use Rattle.std.specs.Prelude.{ℕ, ◌+◌, not, cond, List, leb, eqb, Float}
 use Rattle.std.specs.Float.Ieee.{neg, le}
 use Rattle.vector.specs.Points.{dot_of, negation_of, inf_norm_of, all_finite_of}
+use Rattle.protocol.specs.declared.Refusal.{Refusal}
 use Rattle.linesearch_trials.specs.declared.Line.{Line}
 use Rattle.linesearch_trials.specs.Start.{line_from_of, options_refusal_of, counts_refusal_of, line_refusal_of}
 use Rattle.linesearch.specs.Step as linesearch
@@ -17,7 +18,15 @@ unfoldable pub sought_of : Fixed → Descent → Line → Float → Descent
 sought_of fixed q l step =
     record { phase = searching; number = q.number; detail = q.detail; first = q.first; rounds = q.rounds; line = l; search = linesearch.begun_of (search_fixed fixed) l step; diff = q.diff }
 
--- "A fit's search makes all of `strong_wolfe`'s tests in its order"
+-- "A fit's search makes all of `strong_wolfe`'s tests in its order": the refusal that it meets, 0 for none
+unfoldable pub tested_of : Fixed → Line → Float → Refusal
+tested_of fixed l step =
+    let n = fixed.n in
+    let options = options_refusal_of fixed.options.wolfe in
+    let counts = counts_refusal_of n n n in
+    cond (not (eqb options.number 0)) options (cond (not (eqb counts.number 0)) counts (line_refusal_of n l step))
+
+-- the tests, then the search
 unfoldable pub searched_of : Fixed → Descent → List Float → Descent
 searched_of fixed q d =
     let n = fixed.n in

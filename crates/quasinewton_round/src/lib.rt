@@ -1,108 +1,110 @@
 // The rounds of a gradient fit: the opening up to the first head, and from a head its direction, up to the
-// start of its search.
+// start of its search. The moves are functions, and no methods: the crate that declares the record cannot see what
+// they stand on.
 #![tactic(auto)]
 
 mod opening;
 
 ghost use Rattle.std.specs.Prelude.{◌≡◌, ◌≤◌};
+ghost use Rattle.protocol.specs.Protocol.{as_result};
 ghost use Rattle.quasinewton_model.specs.Step.{FewPairs};
-ghost use Rattle.quasinewton_round.specs.Rounds.{sought_of, searched_of, steepest_of, directed_of, headed_of};
+ghost use Rattle.quasinewton_round.specs.Rounds.{sought_of, tested_of, searched_of, steepest_of, directed_of, headed_of};
 
-use linesearch::Line;
+use linesearch::{Line, Setup};
 pub use opening::{differing, graded, valued};
+use protocol::Refusal;
 use quasinewton_model::Model;
 use quasinewton_record::{
     BY_FEVALS, BY_GRADIENT, BY_ITERATIONS, BY_SEARCH, Descent, Fixed, SEARCHING,
 };
 
 // A search begins along the line.
-fn sought(fixed: Fixed, q: Descent, l: Line, step: f64) -> Descent
-    ensures { result ≡ sought_of fixed q l step }
+#[tactic(auto, unfolding(crate::specs::Rounds::sought_of))]
+fn sought(fixed: Fixed, mut q: Descent, line: Line, step: f64) -> Descent
+    ensures { result ≡ sought_of fixed q line step }
 {
-    let s = linesearch::begun(quasinewton_record::search_fixed(fixed), l, step);
-    let mut w = q;
-    w.phase = SEARCHING;
-    w.line = l;
-    w.search = s;
-    w
+    let setup = Setup {
+        fixed: fixed.search_fixed(),
+        line,
+    };
+    q.phase = SEARCHING;
+    q.line = line;
+    q.search = linesearch::begun(&setup, step);
+    q
 }
 
-// All of `strong_wolfe`'s tests in its order, then the search along d.
+// All of `strong_wolfe`'s tests in its order.
+fn tested(fixed: Fixed, l: Line, step: f64) -> Result<(), Refusal>
+    requires { fixed.n ≤ 16 }
+    ensures { result ≡ as_result (tested_of fixed l step) }
+{
+    let n = fixed.n;
+    linesearch::options_refusal(fixed.options.wolfe)?;
+    linesearch::counts_refusal(n, n, n)?;
+    linesearch::line_refusal(n, l, step)
+}
+
+// The tests, then the search along d.
 fn searched(fixed: Fixed, q: Descent, d: [f64; 16]) -> Descent
     requires { fixed.n ≤ 16 }
     ensures { result ≡ searched_of fixed q d }
 {
-    let n = fixed.n;
-    let o = fixed.options;
-    let wolfe = o.wolfe;
     let at = q.line;
-    let x = at.x;
-    let g = at.g;
-    let l = linesearch::line_from(x, d, at.f, g, n);
-    let step = quasinewton_record::initial_step(q.first, d, n);
-    let options = linesearch::options_refusal(wolfe);
-    if options.number != 0 {
-        return quasinewton_record::refused_by(q, options);
+    let l = linesearch::line_from(at.x, d, at.f, at.g, fixed.n);
+    let step = quasinewton_record::initial_step(q.first, d, fixed.n);
+    match tested(fixed, l, step) {
+        Ok(()) => sought(fixed, q, l, step),
+        Err(why) => q.refused_by(why),
     }
-    let counts = linesearch::counts_refusal(n, n, n);
-    if counts.number != 0 {
-        return quasinewton_record::refused_by(q, counts);
-    }
-    let lent = linesearch::line_refusal(n, l, step);
-    if lent.number != 0 {
-        return quasinewton_record::refused_by(q, lent);
-    }
-    sought(fixed, q, l, step)
 }
 
 // Along minus the gradient, in the place of a direction that does not descend.
-fn steepest(fixed: Fixed, q: Descent) -> Descent
+#[tactic(auto, unfolding(crate::specs::Rounds::steepest_of))]
+fn steepest(fixed: Fixed, mut q: Descent) -> Descent
     requires { fixed.n ≤ 16 }
     ensures { result ≡ steepest_of fixed q }
 {
-    let l = q.line;
-    let g = l.g;
+    let g = q.line.g;
     if quasinewton_record::not_descending(-vector::dot(g, g, fixed.n)) {
-        return quasinewton_record::in_phase(q, BY_SEARCH);
+        q.phase = BY_SEARCH;
+        return q;
     }
     searched(fixed, q, vector::negation(g, fixed.n))
 }
 
+#[tactic(auto, unfolding(crate::specs::Rounds::directed_of))]
 fn directed(fixed: Fixed, q: Descent, d: [f64; 16]) -> Descent
     requires { fixed.n ≤ 16 }
     ensures { result ≡ directed_of fixed q d }
 {
-    let l = q.line;
-    let g = l.g;
-    if quasinewton_record::not_descending(vector::dot(g, d, fixed.n)) {
-        return steepest(fixed, q);
-    }
-    if !vector::all_finite(d, fixed.n) {
+    if quasinewton_record::not_descending(vector::dot(q.line.g, d, fixed.n))
+        || !vector::all_finite(d, fixed.n)
+    {
         return steepest(fixed, q);
     }
     searched(fixed, q, d)
 }
 
 // The tests at the head of a round, in order, then the round.
-pub fn headed(fixed: Fixed, q: Descent, m: Model, fevals: u64) -> Descent
+#[tactic(auto, unfolding(crate::specs::Rounds::headed_of))]
+pub fn headed(fixed: Fixed, mut q: Descent, m: Model, fevals: u64) -> Descent
     requires n_bound { fixed.n ≤ 16 }
     requires few_pairs { FewPairs m }
     ensures { result ≡ headed_of fixed q m fevals }
 {
-    let o = fixed.options;
-    let l = q.line;
-    let g = l.g;
-    if vector::inf_norm(g, fixed.n) <= o.gradtol {
-        return quasinewton_record::in_phase(q, BY_GRADIENT);
+    if vector::inf_norm(q.line.g, fixed.n) <= fixed.options.gradtol {
+        q.phase = BY_GRADIENT;
+        return q;
     }
     if fixed.iter <= q.rounds {
-        return quasinewton_record::in_phase(q, BY_ITERATIONS);
+        q.phase = BY_ITERATIONS;
+        return q;
     }
     if fixed.fevals <= fevals {
-        return quasinewton_record::in_phase(q, BY_FEVALS);
+        q.phase = BY_FEVALS;
+        return q;
     }
-    let d = quasinewton_model::direction(m, g, fixed.n);
-    let mut w = q;
-    w.rounds = q.rounds + 1;
-    directed(fixed, w, d)
+    let d = m.direction(q.line.g, fixed.n);
+    q.rounds += 1;
+    directed(fixed, q, d)
 }

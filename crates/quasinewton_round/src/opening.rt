@@ -1,4 +1,5 @@
-// The opening of a fit: its first value, then its first gradient.
+// The opening of a fit: its first value, then its first gradient. `linesearch` has moves of the same names and shape
+// within a search, of another record and with another end: one form for both would be longer than the two.
 ghost use Rattle.std.specs.Prelude.{◌≡◌, ◌≤◌};
 ghost use Rattle.quasinewton_round.specs.Opening.{graded_of, differing_of, valued_of};
 
@@ -7,64 +8,52 @@ use protocol::Refusal;
 use quasinewton_record::{AT_HEAD, Descent, FIRST_DIFFERENCES, FIRST_GRADIENT, Fixed};
 
 // The first gradient is g.
-pub fn graded(fixed: Fixed, q: Descent, g: [f64; 16]) -> Descent
+#[tactic(auto, unfolding(crate::specs::Opening::graded_of))]
+pub fn graded(fixed: Fixed, mut q: Descent, g: [f64; 16]) -> Descent
     requires { fixed.n ≤ 16 }
     ensures { result ≡ graded_of fixed q g }
 {
-    let mut l = q.line;
-    l.g = g;
-    let mut w = q;
-    w.phase = AT_HEAD;
-    w.line = l;
-    if !vector::all_finite(g, fixed.n) {
-        return quasinewton_record::refused_by(
-            w,
-            Refusal {
-                number: 19,
-                detail: 0,
-            },
-        );
+    q.phase = AT_HEAD;
+    q.line.g = g;
+    if vector::all_finite(g, fixed.n) {
+        return q;
     }
-    w
+    q.refused_by(Refusal {
+        number: 19,
+        detail: 0,
+    })
 }
 
 // The differences have a question, or are done.
-pub fn differing(fixed: Fixed, q: Descent, e: Differences) -> Descent
+#[tactic(auto, unfolding(crate::specs::Opening::differing_of))]
+pub fn differing(fixed: Fixed, mut q: Descent, e: Differences) -> Descent
     requires { fixed.n ≤ 16 }
     ensures { result ≡ differing_of fixed q e }
 {
-    let g = e.g;
     if e.at < fixed.n {
-        let mut w = q;
-        w.phase = FIRST_DIFFERENCES;
-        w.diff = e;
-        return w;
+        q.phase = FIRST_DIFFERENCES;
+        q.diff = e;
+        return q;
     }
-    graded(fixed, q, g)
+    graded(fixed, q, e.g)
 }
 
 // The first value is v.
-pub fn valued(fixed: Fixed, q: Descent, v: f64) -> Descent
+#[tactic(auto, unfolding(crate::specs::Opening::valued_of))]
+pub fn valued(fixed: Fixed, mut q: Descent, v: f64) -> Descent
     requires { fixed.n ≤ 16 }
     ensures { result ≡ valued_of fixed q v }
 {
-    let mut l = q.line;
-    let x = l.x;
-    l.f = v;
-    let mut w = q;
-    w.phase = FIRST_GRADIENT;
-    w.line = l;
+    q.phase = FIRST_GRADIENT;
+    q.line.f = v;
     if !float::is_finite(v) {
-        return quasinewton_record::refused_by(
-            w,
-            Refusal {
-                number: 18,
-                detail: 0,
-            },
-        );
+        return q.refused_by(Refusal {
+            number: 18,
+            detail: 0,
+        });
     }
     if fixed.options.gradients {
-        return w;
+        return q;
     }
-    differing(fixed, w, objective::begun(x))
+    differing(fixed, q, Differences::begun(q.line.x))
 }

@@ -1,129 +1,70 @@
 // A line of hexadecimal words, taken in one byte at a time. Lines differ in length, so no part of the
-// input is known to hold a whole one.
+// input is known to hold a whole one; and no line is longer than the words that have room.
 
-// The words so far, and the word that is being spelled. `bad` is set where the form is another.
+// The words so far, in fixed memory as the engine's, and the word that is being spelled.
 #[derive(Clone, Copy)]
 pub struct Row {
-    pub bad: bool,
-    pub digits: u64,
-    pub spelled: u64,
+    digits: u64,
+    spelled: u64,
     pub count: usize,
-    pub words: [u64; 64],
+    words: [u64; 64],
 }
 
-pub fn empty() -> Row {
-    let words = [0u64; 64];
-    Row {
-        bad: false,
-        digits: 0,
-        spelled: 0,
-        count: 0,
-        words,
+impl Row {
+    pub fn empty() -> Row {
+        Row {
+            digits: 0,
+            spelled: 0,
+            count: 0,
+            words: [0; 64],
+        }
     }
-}
 
-// Whether a byte of the line is read.
-pub fn begun(l: Row) -> bool {
-    if l.bad {
-        return true;
+    // Whether a byte of the line is read.
+    pub fn begun(self) -> bool {
+        0 < self.digits || 0 < self.count
     }
-    if 0 < l.digits {
-        return true;
-    }
-    0 < l.count
-}
 
-fn spoiled(l: Row) -> Row {
-    let words = l.words;
-    Row {
-        bad: true,
-        digits: l.digits,
-        spelled: l.spelled,
-        count: l.count,
-        words,
+    // One digit more, of at most sixteen.
+    fn spelling(self, b: u8) -> Option<Row> {
+        let d = test_rows::digit(b)?;
+        if 15 < self.digits {
+            return None;
+        }
+        Some(Row {
+            digits: self.digits + 1,
+            spelled: (self.spelled << 4) | d,
+            ..self
+        })
     }
-}
 
-// One digit more, of at most sixteen.
-fn spelling(l: Row, b: u8) -> Row {
-    let d = test_rows::digit(b);
-    let words = l.words;
-    if 15 < d {
-        return spoiled(l);
+    // The end of a word, which has a digit at least.
+    fn ended(mut self) -> Option<Row> {
+        if self.digits == 0 {
+            return None;
+        }
+        let at = self.count;
+        let spelled = self.spelled;
+        let word = self.words.get_mut(at)?;
+        *word = spelled;
+        Some(Row {
+            digits: 0,
+            spelled: 0,
+            count: at.saturating_add(1),
+            ..self
+        })
     }
-    if 15 < l.digits {
-        return spoiled(l);
-    }
-    Row {
-        bad: l.bad,
-        digits: l.digits + 1,
-        spelled: (l.spelled << 4) | d,
-        count: l.count,
-        words,
-    }
-}
 
-// The end of a word, which has a digit at least.
-fn ended(l: Row) -> Row {
-    let mut words = l.words;
-    let i = l.count;
-    if l.digits == 0 {
-        return spoiled(l);
+    // One byte more, none where it gives the line another form. A space and a line feed end a word.
+    pub fn fed(self, b: u8) -> Option<Row> {
+        match b {
+            b' ' | b'\n' => self.ended(),
+            _ => self.spelling(b),
+        }
     }
-    if 63 < i {
-        return spoiled(l);
-    }
-    words[i] = l.spelled;
-    Row {
-        bad: l.bad,
-        digits: 0,
-        spelled: 0,
-        count: i + 1,
-        words,
-    }
-}
 
-// One byte more. A space and a line feed end a word.
-pub fn fed(l: Row, b: u8) -> Row {
-    if b == b' ' {
-        return ended(l);
+    // The word at a place, or 0 where the line has none.
+    pub fn word(&self, at: usize) -> u64 {
+        self.words.get(at).copied().unwrap_or(0)
     }
-    if b == b'\n' {
-        return ended(l);
-    }
-    spelling(l, b)
-}
-
-// a + b, or a place that no line has.
-pub fn behind(a: usize, b: usize) -> usize {
-    if 1000 < a {
-        return 1000;
-    }
-    if 1000 < b {
-        return 1000;
-    }
-    a + b
-}
-
-// The word i places behind `from`, or 0 where the line has none.
-pub fn word(l: Row, from: usize, i: usize) -> u64 {
-    let words = l.words;
-    let at = behind(from, i);
-    if at < 64 {
-        return words[at];
-    }
-    0
-}
-
-// A word that is a length.
-pub fn size(l: Row, from: usize, i: usize) -> usize {
-    word(l, from, i) as usize
-}
-
-// A word that is a byte; a larger one is taken as 0, which is no kind's letter.
-pub fn byte(w: u64) -> u8 {
-    if w < 256 {
-        return w as u8;
-    }
-    0
 }

@@ -6,232 +6,175 @@
 
 use fit_dialogue::State;
 use lines_options::Reader;
-use lines_reader::LINE1;
-use std::io::Read;
-use test_rows::Tally;
+use lines_reader::Form;
+use test_rows::{Table, Tally};
 
-// The count so far; the fit's state and the line given as far as it has come; the bytes printed last,
-// how many, and how many of them rows have matched; the row's place (0 its sign, 1 the space, 2 the
-// rest), its sign, and whether it agrees so far.
+// What a row is, by its sign.
 #[derive(Clone, Copy)]
-struct Replay {
+enum Side {
+    Given,
+    Due,
+    Neither,
+}
+
+// The place in a row: before its sign, behind the sign, or behind the space.
+#[derive(Clone, Copy)]
+enum Place {
+    Sign,
+    Space(Side),
+    Rest(Side),
+}
+
+// The bytes printed last, in the fixed memory that `decided` fills, how many they are, and how many of
+// them rows have matched.
+#[derive(Clone, Copy)]
+struct Printed {
+    bytes: [u8; 512],
+    count: usize,
+    matched: usize,
+}
+
+impl Printed {
+    fn nothing() -> Printed {
+        Printed {
+            bytes: [0; 512],
+            count: 0,
+            matched: 0,
+        }
+    }
+
+    fn all_matched(&self) -> bool {
+        self.matched == self.count
+    }
+
+    // Whether b is the next byte that was printed. One that differs takes that byte's place.
+    fn matches(&mut self, b: u8) -> bool {
+        let at = self.matched;
+        if self.count <= at {
+            return false;
+        }
+        self.matched = at.saturating_add(1);
+        self.bytes.get(at) == Some(&b)
+    }
+}
+
+// The count so far; the fit's state and the line given as far as it has come; what was printed last; the
+// row's place, and whether it agrees so far.
+#[derive(Clone, Copy)]
+struct Sample {
     tally: Tally,
     state: State,
     reader: Reader,
-    out: [u8; 512],
-    count: usize,
-    matched: usize,
-    place: u64,
-    sign: u8,
+    printed: Printed,
+    place: Place,
     same: bool,
 }
 
-// Before a fit.
-fn fresh(tally: Tally) -> Replay {
-    let out = [0u8; 512];
-    Replay {
-        tally,
-        state: fit_dialogue::begun(),
-        reader: lines_options::started(LINE1),
-        out,
-        count: 0,
-        matched: 0,
-        place: 0,
-        sign: 0,
-        same: true,
-    }
-}
-
-// The row is over.
-fn ended(s: Replay) -> Replay {
-    let mut next = s;
-    next.tally = test_rows::counted(s.tally, s.same);
-    next.place = 0;
-    next.same = true;
-    next
-}
-
-// The fit is over, and all that was printed must be matched.
-fn parted(s: Replay) -> Replay {
-    let all = s.matched == s.count;
-    fresh(test_rows::counted(s.tally, all))
-}
-
-// The row's sign. All that was printed must be matched before a line is given.
-fn signed(s: Replay, b: u8) -> Replay {
-    let mut next = s;
-    next.place = 1;
-    next.sign = b;
-    if b == b'<' {
-        next.same = s.matched == s.count;
-        next.reader = lines_options::started(s.state.due);
-        return next;
-    }
-    next.same = b == b'>';
-    next
-}
-
-// The byte behind the sign.
-fn spaced(s: Replay, b: u8) -> Replay {
-    let mut next = s;
-    next.place = 2;
-    if b == b' ' {
-        return next;
-    }
-    next.same = false;
-    if b == b'\n' {
-        return ended(next);
-    }
-    next
-}
-
-// The line given ends: what it brings is kept, to be matched.
-fn turned(s: Replay) -> Replay {
-    let tally = s.tally;
-    let reader = s.reader;
-    let before = s.state;
-    let mut out = s.out;
-    let line = lines_options::finished(reader);
-    let turn = fit_dialogue::decided(&mut out, before, line);
-    let state = turn.state;
-    let next = Replay {
-        tally,
-        state,
-        reader,
-        out,
-        count: turn.count,
-        matched: 0,
-        place: s.place,
-        sign: s.sign,
-        same: s.same,
-    };
-    ended(next)
-}
-
-// A byte of a line given.
-fn given(s: Replay, b: u8) -> Replay {
-    if b == b'\n' {
-        return turned(s);
-    }
-    let mut next = s;
-    next.reader = lines_options::fed(s.reader, b);
-    next
-}
-
-// Whether b is the next byte that was printed.
-fn printed(s: Replay, b: u8) -> bool {
-    let out = s.out;
-    let at = s.matched;
-    if s.count <= at {
-        return false;
-    }
-    if 511 < at {
-        return false;
-    }
-    out[at] == b
-}
-
-// A byte of a line due. One that differs takes the place of the byte that was printed.
-fn due(s: Replay, b: u8) -> Replay {
-    let mut next = s;
-    if !printed(s, b) {
-        next.same = false;
-    }
-    if s.matched < s.count {
-        next.matched = s.matched + 1;
-    }
-    if b == b'\n' {
-        return ended(next);
-    }
-    next
-}
-
-// A byte behind the space.
-fn inside(s: Replay, b: u8) -> Replay {
-    if s.sign == b'<' {
-        return given(s, b);
-    }
-    if s.sign == b'>' {
-        return due(s, b);
-    }
-    if b == b'\n' {
-        return ended(s);
-    }
-    s
-}
-
-// One byte more.
-fn fed(s: Replay, b: u8) -> Replay {
-    if s.place == 0 {
-        if b == b'\n' {
-            return parted(s);
+impl Sample {
+    // Before a fit.
+    fn fresh(tally: Tally) -> Sample {
+        Sample {
+            tally,
+            state: fit_dialogue::begun(),
+            reader: Reader::started(Form::Line1),
+            printed: Printed::nothing(),
+            place: Place::Sign,
+            same: true,
         }
-        return signed(s, b);
     }
-    if s.place == 1 {
-        return spaced(s, b);
+
+    // The row is over.
+    fn end(&mut self) {
+        self.tally = self.tally.counted(self.same);
+        self.place = Place::Sign;
+        self.same = true;
     }
-    inside(s, b)
-}
 
-fn part(s: Replay, bytes: &[u8]) -> Replay {
-    let mut state = s;
-    for b in bytes {
-        let next = fed(state, *b);
-        state = next;
+    // The row's sign. All that was printed must be matched before a line is given, and before an empty row,
+    // which ends the fit.
+    fn sign(&mut self, b: u8) {
+        let all = self.printed.all_matched();
+        match b {
+            b'\n' => *self = Sample::fresh(self.tally.counted(all)),
+            b'<' => {
+                self.place = Place::Space(Side::Given);
+                self.same = all;
+                self.reader = Reader::started(self.state.due);
+            }
+            b'>' => self.place = Place::Space(Side::Due),
+            _ => {
+                self.place = Place::Space(Side::Neither);
+                self.same = false;
+            }
+        }
     }
-    state
-}
 
-// Bytes past the last line feed, or printed and not matched, are a row that differs.
-fn closed(s: Replay) -> Tally {
-    if s.place != 0 {
-        return test_rows::counted(s.tally, false);
+    // The byte behind the sign.
+    fn space(&mut self, side: Side, b: u8) {
+        self.place = Place::Rest(side);
+        if b != b' ' {
+            self.same = false;
+        }
+        if b == b'\n' {
+            self.end();
+        }
     }
-    if s.matched != s.count {
-        return test_rows::counted(s.tally, false);
+
+    // The line given ends: what it brings is kept, to be matched.
+    fn turn(&mut self) {
+        let line = self.reader.finished();
+        let mut bytes = self.printed.bytes;
+        let turn = fit_dialogue::decided(&mut bytes, self.state, line);
+        self.state = turn.state;
+        self.printed = Printed {
+            bytes,
+            count: turn.count,
+            matched: 0,
+        };
     }
-    s.tally
+
+    // A byte behind the space.
+    fn rest(&mut self, side: Side, b: u8) {
+        match side {
+            Side::Given if b == b'\n' => self.turn(),
+            Side::Given => self.reader = self.reader.fed(b),
+            Side::Due => {
+                if !self.printed.matches(b) {
+                    self.same = false;
+                }
+            }
+            Side::Neither => {}
+        }
+        if b == b'\n' {
+            self.end();
+        }
+    }
 }
 
-fn begun() -> Replay {
-    fresh(test_rows::none())
-}
+impl Table for Sample {
+    // One byte more.
+    fn fed(&mut self, b: u8) {
+        match self.place {
+            Place::Sign => self.sign(b),
+            Place::Space(side) => self.space(side, b),
+            Place::Rest(side) => self.rest(side, b),
+        }
+    }
 
-fn say_read_failed(rt: &impl Eprint) {
-    let _ = rt.eprintln("test_fits: a read of standard input failed");
-}
-
-fn say_write_failed(rt: &impl Eprint) {
-    let _ = rt.eprintln("test_fits: a write to standard output failed");
-}
-
-// Writes the line of the end.
-fn report(rt: &(impl Print + Eprint), t: Tally) {
-    let mut out = [0u8; 512];
-    let n = test_rows::put_report(&mut out, t);
-    if rt.write_all(&out[..n]).is_err() {
-        say_write_failed(rt);
+    // Bytes past the last line feed, or printed and not matched, are a row that differs.
+    fn closed(self) -> Tally {
+        match self.place {
+            Place::Sign if self.printed.all_matched() => self.tally,
+            _ => self.tally.counted(false),
+        }
     }
 }
 
 fn main(rt: HostRuntime) {
-    let mut buf = [0u8; 4096];
-    let mut state = begun();
-    for _ in 0..u64::MAX {
-        match rt.stdin().read(&mut buf) {
-            Err(_) => {
-                say_read_failed(&rt);
-                return;
-            }
-            Ok(0) => {
-                report(&rt, closed(state));
-                return;
-            }
-            Ok(n) => {
-                let next = part(state, &buf[..n]);
-                state = next;
-            }
-        }
-    }
+    test_rows::replay(
+        &rt,
+        &mut rt.stdin(),
+        "test_fits",
+        Sample::fresh(Tally::none()),
+    );
 }

@@ -1,6 +1,7 @@
 -- The laws of loops that count from 0 to n: each is stated once, and every loop cites them. Assumes nothing.
 use mathlib.Core.Path.{◌≡◌, refl, sym, ap, ◌∙◌, subst}
 use Prim.Native.Nat.{ℕ, zero, suc, ◌+◌, ◌-◌, ◌≤◌, ◌<◌, zero-le}
+use mathlib.Core.Bool.{Bool, true, false, ◌&&◌}
 use mathlib.Core.List.{List, [], ◌∷◌, ◌++◌, append_assoc}
 use native.Mathlib.Nat.{le_antisymm, add-zero, add-suc, add-sub_of_le}
 use native.Mathlib.Numerals.{add-one}
@@ -9,7 +10,7 @@ use lib.ListN.{length, set, replicate, length-append}
 use lib.Seq.{set_at}
 use lib.Ieee.{Float}
 use Rattle.float.specs.Binary64.{plus_zero}
-use Rattle.vector.specs.Loops.{fold, upto, point}
+use Rattle.vector.specs.Loops.{fold, upto, point, Fills, Holds}
 
 -- The invariant of a loop that counts i up to n, at most N, and has made s, which is F i
 pub record Made {A : Type 0} (N : ℕ) (F : ℕ → A) (n : ℕ) (s : A) (i : ℕ) : Type 0 where
@@ -49,11 +50,12 @@ point_more g n h =
     ∙ set_at (upto g n) plus_zero (replicate (16 - suc n) plus_zero) (g n) n (length_upto g n)
     ∙ sym (append_assoc (upto g n) (g n ∷ []) (replicate (16 - suc n) plus_zero))
 
--- a turn of one that fills a point
-pub filled : {g : ℕ → Float} {n : ℕ} {r : List Float} {x : Float} {i : ℕ} → Made 16 (point g) n r i → i < n → x ≡ g i → Made 16 (point g) n (set r i x) (i + 1)
-filled {g = g} {i = i} m h e =
-    record {
-      within = omega arith;
-      small = m.small;
-      made = rw (add-one, e) (ap (λ l. set l i (g i)) m.made ∙ point_more g i (omega (arith, m.small)));
-    }
+-- a turn that puts at coordinate i what R has there
+pub fills_more : {R : ℕ → Float → Type 0} {i : ℕ} {r : List Float} {v : Float} → i < 16 → Fills R i r → R i v → Fills R (i + 1) (set r i v)
+fills_more {R = R} {i = i} {r = r} {v = v} h m e g k =
+    rw (add-one, k i (omega arith) v e, m g (λ j l. k j (omega (arith, l)))) (point_more g i h)
+
+-- a turn that leaves the loop with false, where R has false
+pub holds_not : {R : ℕ → Bool → Type 0} {i n : ℕ} {b : Bool} → i < n → Holds R i true → R i b → b ≡ false → Holds R n false
+holds_not {i = i} {n = n} {b = b} h m v e p k =
+    left_with {N = n} {f = λ c j. c && p j} {z = true} (record { within = omega arith; small = omega arith; made = m p (λ j l. k j (omega (arith, l))) }) h (sym e ∙ k i h b v) (λ j. refl)

@@ -1,8 +1,50 @@
-// Points of the first n of sixteen coordinates, those past n zero. One loop to a function.
+// Points of the first n of sixteen coordinates, those past n zero: there is no heap, and a point crosses to C as
+// sixteen numbers. Three functions hold the loops, and the others hand them a closure.
+// That n is at most 16 is asked of each function that reads n, here and in the crates above, and is no invariant of
+// a struct: those that hold n are public and built by anyone, so an invariant would ask more of callers.
 #![tactic(auto)]
 
-ghost use Rattle.std.specs.Prelude.{◌≡◌, ◌≤◌, ◌<◌, length};
+ghost use Rattle.std.specs.Prelude.{◌≡◌, ◌≤◌, ◌<◌, ℕ, length};
+ghost use Rattle.vector.specs.Loops.{Fills, Folds, Holds};
 ghost use Rattle.vector.specs.Points.{from_slice_of, dot_of, inf_norm_of, all_finite_of, plus_scaled_of, minus_scaled_of, difference_of, addition_of, quotient_of, scaled_of, negation_of, towards_of, shrunk_of, row_dot_of, mat_vec_of};
+
+// The point whose first n coordinates are f of their places, f(0), f(1), and so on.
+pub fn filled<F: Fn(usize) -> f64>(n: usize, f: F) -> [f64; 16]
+    requires n_bound { n ≤ 16 }
+    requires callable { (i : ℕ) → i < n → F.pre f i }
+    ensures { Fills (F.post f) n result }
+{
+    let mut r = [0.0; 16];
+    for i in 0..n {
+        r[i] = f(i);
+    }
+    r
+}
+
+// What f makes of z at 0, then at 1, and so on up to n - 1.
+pub fn folded<A: Copy, F: Fn(A, usize) -> A>(n: usize, z: A, f: F) -> A
+    requires callable { (a : A) (i : ℕ) → i < n → F.pre f a i }
+    ensures { Folds (F.post f) n z result }
+{
+    let mut s = z;
+    for i in 0..n {
+        s = f(s, i);
+    }
+    s
+}
+
+// Whether f holds at each place below n.
+pub fn every<F: Fn(usize) -> bool>(n: usize, f: F) -> bool
+    requires callable { (i : ℕ) → i < n → F.pre f i }
+    ensures { Holds (F.post f) n result }
+{
+    for i in 0..n {
+        if !f(i) {
+            return false;
+        }
+    }
+    true
+}
 
 // The point that a slice lists.
 pub fn from_slice(s: &[f64], n: usize) -> [f64; 16]
@@ -10,13 +52,7 @@ pub fn from_slice(s: &[f64], n: usize) -> [f64; 16]
     requires n_in_bounds { n ≤ length s.now }
     ensures { result ≡ from_slice_of s.now n }
 {
-    let mut r = [0.0; 16];
-    let mut i: usize = 0;
-    while i < n {
-        r[i] = s[i];
-        i += 1;
-    }
-    r
+    filled(n, |i| s[i])
 }
 
 // a · b, from -0.0 as current Rust's sum begins.
@@ -24,13 +60,7 @@ pub fn dot(a: [f64; 16], b: [f64; 16], n: usize) -> f64
     requires { n ≤ 16 }
     ensures { result ≡ dot_of a b n }
 {
-    let mut s = -0.0;
-    let mut i: usize = 0;
-    while i < n {
-        s = s + a[i] * b[i];
-        i += 1;
-    }
-    s
+    folded(n, -0.0, |s: f64, i| s + a[i] * b[i])
 }
 
 // The largest magnitude; a NaN is passed over.
@@ -38,27 +68,14 @@ pub fn inf_norm(a: [f64; 16], n: usize) -> f64
     requires { n ≤ 16 }
     ensures { result ≡ inf_norm_of a n }
 {
-    let mut m = 0.0;
-    let mut i: usize = 0;
-    while i < n {
-        m = float::max(m, float::abs(a[i]));
-        i += 1;
-    }
-    m
+    folded(n, 0.0, |m: f64, i| float::max(m, float::abs(a[i])))
 }
 
 pub fn all_finite(a: [f64; 16], n: usize) -> bool
     requires { n ≤ 16 }
     ensures { result ≡ all_finite_of a n }
 {
-    let mut i: usize = 0;
-    while i < n {
-        if !float::is_finite(a[i]) {
-            return false;
-        }
-        i += 1;
-    }
-    true
+    every(n, |i| float::is_finite(a[i]))
 }
 
 // x + t d
@@ -66,13 +83,7 @@ pub fn plus_scaled(x: [f64; 16], t: f64, d: [f64; 16], n: usize) -> [f64; 16]
     requires { n ≤ 16 }
     ensures { result ≡ plus_scaled_of x t d n }
 {
-    let mut r = [0.0; 16];
-    let mut i: usize = 0;
-    while i < n {
-        r[i] = x[i] + t * d[i];
-        i += 1;
-    }
-    r
+    filled(n, |i| x[i] + t * d[i])
 }
 
 // x - t d
@@ -80,13 +91,7 @@ pub fn minus_scaled(x: [f64; 16], t: f64, d: [f64; 16], n: usize) -> [f64; 16]
     requires { n ≤ 16 }
     ensures { result ≡ minus_scaled_of x t d n }
 {
-    let mut r = [0.0; 16];
-    let mut i: usize = 0;
-    while i < n {
-        r[i] = x[i] - t * d[i];
-        i += 1;
-    }
-    r
+    filled(n, |i| x[i] - t * d[i])
 }
 
 // a - b
@@ -94,13 +99,7 @@ pub fn difference(a: [f64; 16], b: [f64; 16], n: usize) -> [f64; 16]
     requires { n ≤ 16 }
     ensures { result ≡ difference_of a b n }
 {
-    let mut r = [0.0; 16];
-    let mut i: usize = 0;
-    while i < n {
-        r[i] = a[i] - b[i];
-        i += 1;
-    }
-    r
+    filled(n, |i| a[i] - b[i])
 }
 
 // a + b
@@ -108,13 +107,7 @@ pub fn addition(a: [f64; 16], b: [f64; 16], n: usize) -> [f64; 16]
     requires { n ≤ 16 }
     ensures { result ≡ addition_of a b n }
 {
-    let mut r = [0.0; 16];
-    let mut i: usize = 0;
-    while i < n {
-        r[i] = a[i] + b[i];
-        i += 1;
-    }
-    r
+    filled(n, |i| a[i] + b[i])
 }
 
 // a / t
@@ -122,13 +115,7 @@ pub fn quotient(a: [f64; 16], t: f64, n: usize) -> [f64; 16]
     requires { n ≤ 16 }
     ensures { result ≡ quotient_of a t n }
 {
-    let mut r = [0.0; 16];
-    let mut i: usize = 0;
-    while i < n {
-        r[i] = a[i] / t;
-        i += 1;
-    }
-    r
+    filled(n, |i| a[i] / t)
 }
 
 // a t
@@ -136,13 +123,7 @@ pub fn scaled(a: [f64; 16], t: f64, n: usize) -> [f64; 16]
     requires { n ≤ 16 }
     ensures { result ≡ scaled_of a t n }
 {
-    let mut r = [0.0; 16];
-    let mut i: usize = 0;
-    while i < n {
-        r[i] = a[i] * t;
-        i += 1;
-    }
-    r
+    filled(n, |i| a[i] * t)
 }
 
 // -a
@@ -150,13 +131,7 @@ pub fn negation(a: [f64; 16], n: usize) -> [f64; 16]
     requires { n ≤ 16 }
     ensures { result ≡ negation_of a n }
 {
-    let mut r = [0.0; 16];
-    let mut i: usize = 0;
-    while i < n {
-        r[i] = -a[i];
-        i += 1;
-    }
-    r
+    filled(n, |i| -a[i])
 }
 
 // A trial point of the simplex: c + t (c - w), from the centroid and the worst vertex.
@@ -164,13 +139,7 @@ pub fn towards(c: [f64; 16], w: [f64; 16], t: f64, n: usize) -> [f64; 16]
     requires { n ≤ 16 }
     ensures { result ≡ towards_of c w t n }
 {
-    let mut r = [0.0; 16];
-    let mut i: usize = 0;
-    while i < n {
-        r[i] = c[i] + t * (c[i] - w[i]);
-        i += 1;
-    }
-    r
+    filled(n, |i| c[i] + t * (c[i] - w[i]))
 }
 
 // A vertex drawn to the best: b + t (v - b).
@@ -178,13 +147,7 @@ pub fn shrunk(b: [f64; 16], v: [f64; 16], t: f64, n: usize) -> [f64; 16]
     requires { n ≤ 16 }
     ensures { result ≡ shrunk_of b v t n }
 {
-    let mut r = [0.0; 16];
-    let mut i: usize = 0;
-    while i < n {
-        r[i] = b[i] + t * (v[i] - b[i]);
-        i += 1;
-    }
-    r
+    filled(n, |i| b[i] + t * (v[i] - b[i]))
 }
 
 // Row i of h, a matrix of sixteen columns, by v.
@@ -193,13 +156,7 @@ pub fn row_dot(h: &[f64; 256], i: usize, v: [f64; 16], n: usize) -> f64
     requires n_bound { n ≤ 16 }
     ensures { result ≡ row_dot_of h.now i v n }
 {
-    let mut sum = -0.0;
-    let mut j: usize = 0;
-    while j < n {
-        sum = sum + h[i * 16 + j] * v[j];
-        j += 1;
-    }
-    sum
+    folded(n, -0.0, |s: f64, j| s + h[i * 16 + j] * v[j])
 }
 
 // The first n rows and columns of h by v.
@@ -207,11 +164,5 @@ pub fn mat_vec(h: &[f64; 256], v: [f64; 16], n: usize) -> [f64; 16]
     requires { n ≤ 16 }
     ensures { result ≡ mat_vec_of h.now v n n }
 {
-    let mut r = [0.0; 16];
-    let mut i: usize = 0;
-    while i < n {
-        r[i] = row_dot(h, i, v, n);
-        i += 1;
-    }
-    r
+    filled(n, |i| row_dot(h, i, v, n))
 }

@@ -1,10 +1,7 @@
--- `bench_rosenbrock::rosenbrock_objective` is safe and ends: each turn has one fewer to come. Assumes nothing.
-use mathlib.Core.Path.{sym, ◌∙◌}
+-- `bench_rosenbrock::rosenbrock_objective` is safe: n is at most 16. Assumes nothing.
+use Rattle.std.proofs.Common.{sym, ◌∙◌}
 use Rattle.bench_rosenbrock.proofs.Inside.{inside}
 use Rattle.bench_rosenbrock.proofs.rosenbrock_objective.Goals as goal
 
-pub begin-x-requires : goal.begin-x-requires
-begin-x-requires c = inside (sym c.outside.ensures ∙ c.if-outside.false)
-
-pub loop-i-init : goal.loop-i-init
-loop-i-init c = (inside (sym c.outside.ensures ∙ c.if-outside.false), c.begin-x.ensures)
+pub begin-p-requires : goal.begin-p-requires
+begin-p-requires c = inside (sym c.outside.ensures ∙ c.if-outside.false)

@@ -32,4 +32,4 @@ pub returns-in-Refused : goal.returns-in-Refused
 unfolding outcome_of
 returns-in-Refused c =
     let a = c.args.a in
-    put_is c.args.out.now (no_shown a.said a.next.n a.x a.g _ _ c.in-Refused.is) c.put_no.ensures
+    put_is c.args.out.now (no_shown a.said a.next.n a.x a.g _ c.in-Refused.is) c.put_no.ensures

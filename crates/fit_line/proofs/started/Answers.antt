@@ -13,4 +13,4 @@ shown-count-requires c = subst (λ (o : Reply × Record). Few o.0 o.1.n) (sym c.
 
 pub returns : goal.returns
 unfolding started_of outcome_of
-returns c = (rw (← c.start-a.ensures, ← c.shown-count.ensures.0, ← c.due_after.ensures, ← c.following.ensures), rw (← c.start-a.ensures) c.shown-count.ensures.1)
+returns c = (rw (← c.start-a.ensures, ← c.shown-count.ensures.0, c.onward.ensures, c.due_after.ensures), rw (← c.start-a.ensures) c.shown-count.ensures.1)

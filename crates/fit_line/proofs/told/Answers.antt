@@ -13,4 +13,4 @@ shown-count-requires c = subst (λ (o : Reply × Record). Few o.0 o.1.n) (sym c.
 
 pub returns : goal.returns
 unfolding told_of outcome_of
-returns c = (rw (← c.answer-a.ensures.outcome, ← c.shown-count.ensures.0, ← c.following.ensures), rw (← c.answer-a.ensures.outcome) c.shown-count.ensures.1)
+returns c = (rw (← c.answer-a.ensures.outcome, ← c.shown-count.ensures.0, c.onward.ensures), rw (← c.answer-a.ensures.outcome) c.shown-count.ensures.1)

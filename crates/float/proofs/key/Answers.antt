@@ -1,40 +1,18 @@
 -- `float::key` meets its contract. Assumes nothing.
-use Rattle.float.specs.Binary64.{Number}
+use mathlib.Core.Path.{sym, ◌∙◌}
 use Rattle.float.specs.Order.{key_of}
 use Rattle.float.proofs.Bits.{held, is_nan_lem, number}
-use Rattle.float.proofs.Words.{mask_small, one_less_fits, key_plus, key_minus}
+use Rattle.float.proofs.Words.{key_plus, key_minus}
 use Rattle.float.proofs.key.Goals as goal
 
 pub returns-then-x : goal.returns-then-x
 unfolding key_of
 returns-then-x c = rw (is_nan_lem c.args.x c.if-x.true)
 
-pub float_to_bits-b : goal.float_to_bits-b
-unfolding key_of
-float_to_bits-b c =
-    let numeric : Number c.args.x = number c.args.x c.if-x.false in
-    numeric
+pub returns-then-is_negative : goal.returns-then-is_negative
+returns-then-is_negative c =
+    key_minus c.args.x (held c.well_formed.0.1) (number c.args.x c.if-x.false) c.magnitude-m.ensures (sym c.is_negative.ensures ∙ c.if-is_negative.true)
 
-pub overflow_cast-m : goal.overflow_cast-m
-unfolding key_of
-overflow_cast-m c =
-    let numeric : Number c.args.x = number c.args.x c.if-x.false in
-    record { sfits = mask_small c.args.x (held c.well_formed.0.1) numeric }
-
-pub overflow_sub-result : goal.overflow_sub-result
-unfolding key_of
-overflow_sub-result c =
-    let numeric : Number c.args.x = number c.args.x c.if-x.false in
-    one_less_fits _ (mask_small c.args.x (held c.well_formed.0.1) numeric)
-
-pub returns-then-b-eq0 : goal.returns-then-b-eq0
-unfolding key_of
-returns-then-b-eq0 c =
-    let numeric : Number c.args.x = number c.args.x c.if-x.false in
-    key_plus c.args.x (held c.well_formed.0.1) numeric c.if-b-eq0.true
-
-pub returns-else-b-eq0 : goal.returns-else-b-eq0
-unfolding key_of
-returns-else-b-eq0 c =
-    let numeric : Number c.args.x = number c.args.x c.if-x.false in
-    key_minus c.args.x (held c.well_formed.0.1) numeric c.if-b-eq0.false
+pub returns-else-is_negative : goal.returns-else-is_negative
+returns-else-is_negative c =
+    key_plus c.args.x (held c.well_formed.0.1) (number c.args.x c.if-x.false) c.magnitude-m.ensures (sym c.is_negative.ensures ∙ c.if-is_negative.false)

@@ -1,14 +1,9 @@
--- `lines_buffer::places` meets its contract: the digits that are counted and those to come are all. Assumes nothing.
-use mathlib.Core.Path.{◌≡◌}
-use native.Mathlib.Omega.{arith}
-use Rattle.lines_buffer.proofs.Writes.{places_stop, places_go, places_end}
+-- `lines_buffer::places` meets its contract: the power of ten that is the last not above n tells its digits. Assumes nothing.
+use Rattle.std.proofs.Common.{rules}
+use Rattle.lines_buffer.proofs.Digits.{counted}
 use Rattle.lines_buffer.proofs.places.Goals as goal
 
-pub returns-then-rest-lt10 : goal.returns-then-rest-lt10
-returns-then-rest-lt10 c = let l = c.loop-k in (omega (arith, places_stop l.k l.rest (omega arith) (omega arith)), omega arith)
-
-pub loop-k-preserved : goal.loop-k-preserved
-loop-k-preserved c = let l = c.loop-k in (omega arith, omega (arith, places_go l.k l.rest (omega arith) (omega arith)))
-
 pub returns : goal.returns
-returns c = let l = c.loop-k in let z : l.k ≡ 0 = omega arith in (omega (arith, rw z at l.invariant.1, places_end l.rest), omega arith)
+returns c =
+    let log = c.checked_ilog10.ensures in
+    counted c.args.n c.checked_ilog10.result c.map_or.result log.none log.power_le log.next_power_gt log.bound (search rules)

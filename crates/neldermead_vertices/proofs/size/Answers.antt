@@ -1,18 +1,12 @@
--- `neldermead_vertices::size` meets its contract: after i turns it has made what the definition makes of i. Assumes nothing.
-use mathlib.Core.Path.{refl}
+-- `neldermead_vertices::size` meets its contract. Assumes nothing.
 use lib.Ieee.{of_bits}
-use Rattle.neldermead_vertices.specs.Vertices.{size_of}
-use Rattle.vector.proofs.Loops.{start, carried, done}
+use Prim.Native.Nat.{◌+◌}
+use Rattle.std.proofs.Common.{rules}
+use Rattle.float.specs.Values.{max_of}
+use Rattle.vector.specs.Points.{inf_norm_of, difference_of}
+use Rattle.neldermead_vertices.specs.Vertices.{vertex_at, size_of}
 use Rattle.neldermead_vertices.proofs.size.Goals as goal
-
-pub loop-i-init : goal.loop-i-init
-unfolding size_of of_bits
-loop-i-init c = start c.requires refl
-
-pub loop-i-preserved : goal.loop-i-preserved
-unfolding size_of of_bits
-loop-i-preserved c = carried c.loop-i.invariant c.loop-i-test.true (cc)
 
 pub returns : goal.returns
 unfolding size_of of_bits
-returns c = done c.loop-i.invariant c.loop-i-test.false
+returns c = c.folded.ensures (λ m i. max_of m (inf_norm_of (difference_of (vertex_at c.args.v (i + 1)).x (vertex_at c.args.v 0).x c.args.n) c.args.n)) (λ m i l r p. search rules)

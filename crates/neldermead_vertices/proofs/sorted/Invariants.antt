@@ -14,7 +14,4 @@ abbrev pub decreases-loop-j : goal.decreases-loop-j
 decreases-loop-j l = l.n - l.j
 
 abbrev pub invariant-loop-i : goal.invariant-loop-i
-invariant-loop-i l = (l.i ≤ l.n) × (length l.w ≡ 17) × (l.w ≡ sorted_from l.initial.w l.n l.i)
-
-abbrev pub decreases-loop-i : goal.decreases-loop-i
-decreases-loop-i l = l.i
+invariant-loop-i l = (length l.w ≡ 17) × (l.w ≡ sorted_from l.initial.w l.n l.i)

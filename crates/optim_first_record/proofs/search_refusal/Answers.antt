@@ -1,17 +1,21 @@
--- `optim_first_record::search_refusal` meets its contract: each return follows the calls and tests that led to it. Assumes nothing.
-use borrow.Author.Tests.{eq-eqb, ne_eqb}
+-- `optim_first_record::search_refusal` meets its contract: 2, then the `?` hands back what the options meet. Assumes nothing.
+use mathlib.Core.Path.{◌∙◌}
+use Rattle.std.proofs.lemmas.Result.{err_from_is_err_and}
+use Rattle.protocol.specs.Protocol.{as_result}
+use Rattle.protocol.proofs.Refusals.{then_others, first_of}
 use Rattle.optim_first_record.specs.Starts.{search_refusal_of}
 use Rattle.optim_first_record.proofs.search_refusal.Goals as goal
 
 pub returns-then-search_past_limits : goal.returns-then-search_past_limits
-unfolding search_refusal_of
-returns-then-search_past_limits c = rw (← c.search_past_limits.ensures, ← c.refuse.ensures, c.if-search_past_limits.true)
+unfolding search_refusal_of as_result
+returns-then-search_past_limits c = rw (← c.search_past_limits.ensures, c.if-search_past_limits.true, c.new.ensures)
 
-pub returns-then-why-ne0 : goal.returns-then-why-ne0
+pub returns-in_err-options_refusal : goal.returns-in_err-options_refusal
 unfolding search_refusal_of
-returns-then-why-ne0 c = rw (← c.search_past_limits.ensures, ← c.options_refusal-why.ensures, c.if-search_past_limits.false, ne_eqb _ _ c.if-why-ne0.true)
+returns-in_err-options_refusal c =
+    let p = err_from_is_err_and c.from_residual.result c.from_residual.ensures.1 in
+    rw (p.1, p.2, ← c.search_past_limits.ensures, c.if-search_past_limits.false) (first_of _ _ _ c.in_err-options_refusal.ensures)
 
 pub returns : goal.returns
 unfolding search_refusal_of
-returns c =
-    rw (← c.search_past_limits.ensures, ← c.options_refusal-why.ensures, ← c.counts_refusal.ensures, c.if-search_past_limits.false, eq-eqb _ _ c.if-why-ne0.false)
+returns c = rw (← c.search_past_limits.ensures, c.if-search_past_limits.false) (c.counts_refusal.ensures ∙ then_others _ _ c.in_ok-options_refusal.ensures)

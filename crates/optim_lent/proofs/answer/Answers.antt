@@ -1,19 +1,19 @@
 -- `optim_lent::answer` meets its contract: an unknown flag, an answer that moves the record, and one that does not. Assumes nothing.
-use Rattle.optim_lists.specs.Lists.{lists}
+use Rattle.optim_lists.specs.Lent.{lists_in}
 use Rattle.optim_lent.proofs.Laws.{answer_unknown, answer_moved, answer_left}
 use Rattle.optim_lent.proofs.answer.Goals as goal
 
 pub returns-then-not-formed : goal.returns-then-not-formed
 returns-then-not-formed c =
     let a = c.args in
-    let held = lists a.m.now a.w.now a.dx.now a.dg.now a.sx.now a.best.now a.centroid.now a.reflected.now a.points.now a.values.now a.lx.now a.lg.now a.ld.now a.tx.now a.tg.now a.ex.now a.eg.now a.ix.now a.ig.now a.h.now a.steps.now a.changes.now a.factors.now in
+    let held = lists_in a.l in
     let h = answer_unknown held _ _ _ _ _ _ c.formed.ensures c.if-not-formed.true in
     record { outcome = h.outcome; said_point = h.point; said_slopes = h.slopes }
 
 pub returns-then-next-before : goal.returns-then-next-before
 returns-then-next-before c =
     let a = c.args in
-    let held = lists a.m.now a.w.now a.dx.now a.dg.now a.sx.now a.best.now a.centroid.now a.reflected.now a.points.now a.values.now a.lx.now a.lg.now a.ld.now a.tx.now a.tg.now a.ex.now a.eg.now a.ix.now a.ig.now a.h.now a.steps.now a.changes.now a.factors.now in
+    let held = lists_in a.l in
     let said = c.speak.ensures in
     let e = c.answer-a.ensures in
     let h = answer_moved held a.number a.kind a.words.now c.answer-a.result _ a.point.now a.slopes.now _ c.formed.ensures c.if-not-formed.false c.load-r.ensures e.outcome e.spoken said.said_point said.said_slopes _ c.if-next-before.true c.store.ensures in
@@ -22,7 +22,7 @@ returns-then-next-before c =
 pub returns-else-next-before : goal.returns-else-next-before
 returns-else-next-before c =
     let a = c.args in
-    let held = lists a.m.now a.w.now a.dx.now a.dg.now a.sx.now a.best.now a.centroid.now a.reflected.now a.points.now a.values.now a.lx.now a.lg.now a.ld.now a.tx.now a.tg.now a.ex.now a.eg.now a.ix.now a.ig.now a.h.now a.steps.now a.changes.now a.factors.now in
+    let held = lists_in a.l in
     let said = c.speak.ensures in
     let e = c.answer-a.ensures in
     let h = answer_left held a.number a.kind a.words.now c.answer-a.result _ a.point.now a.slopes.now _ c.formed.ensures c.if-not-formed.false c.load-r.ensures e.outcome e.spoken said.said_point said.said_slopes c.if-next-before.false in

@@ -1,12 +1,8 @@
--- `optim_rules::accepts` meets its contract: each return follows the calls and tests that led to it. Assumes nothing.
-use borrow.Author.Tests.{eq-eqb, ne_eqb}
-use Rattle.optim_rules.specs.Rules.{accepts_of}
+-- `optim_rules::accepts` meets its contract: a number accepted has one that follows. Assumes nothing.
+use mathlib.Core.Path.{sym, ◌∙◌}
+use native.Mathlib.Omega.{arith}
+use Rattle.optim_rules.proofs.Ranges.{ranges}
 use Rattle.optim_rules.proofs.accepts.Goals as goal
 
-pub returns-then-why-ne0 : goal.returns-then-why-ne0
-unfolding accepts_of
-returns-then-why-ne0 c = rw (ne_eqb _ _ c.if-why-ne0.true)
-
-pub returns : goal.returns
-unfolding accepts_of
-returns c = rw (← c.repeats.ensures, eq-eqb _ _ c.if-why-ne0.false)
+pub overflow_add-r : goal.overflow_add-r
+overflow_add-r c = omega (arith, (ranges c.args.r (sym c.valid.ensures ∙ c.if-not-valid.false)).numbers)

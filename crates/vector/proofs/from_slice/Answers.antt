@@ -1,18 +1,9 @@
--- `vector::from_slice` meets its contract: after i turns it has made what the definition makes of i. Assumes nothing.
-use mathlib.Core.Path.{refl}
-use lib.Ieee.{of_bits}
+-- `vector::from_slice` meets its contract. Assumes nothing.
+use Rattle.std.proofs.Common.{rules}
+use Rattle.vector.specs.Loops.{at}
 use Rattle.vector.specs.Points.{from_slice_of}
-use Rattle.vector.proofs.Loops.{start, filled, done}
 use Rattle.vector.proofs.from_slice.Goals as goal
 
-pub loop-i-init : goal.loop-i-init
-unfolding from_slice_of of_bits
-loop-i-init c = start c.requires.n_bound refl
-
-pub loop-i-preserved : goal.loop-i-preserved
-unfolding from_slice_of of_bits
-loop-i-preserved c = filled c.loop-i.invariant c.loop-i-test.true refl
-
 pub returns : goal.returns
-unfolding from_slice_of of_bits
-returns c = done c.loop-i.invariant c.loop-i-test.false
+unfolding from_slice_of
+returns c = c.filled.ensures (at c.args.s.now) (λ i l v p. search rules)

@@ -1,18 +1,8 @@
--- `vector::mat_vec` meets its contract: after i turns it has made what the definition makes of i. Assumes nothing.
-use mathlib.Core.Path.{refl}
-use lib.Ieee.{of_bits}
-use Rattle.vector.specs.Points.{mat_vec_of}
-use Rattle.vector.proofs.Loops.{start, filled, done}
+-- `vector::mat_vec` meets its contract. Assumes nothing.
+use Rattle.std.proofs.Common.{rules}
+use Rattle.vector.specs.Points.{row_dot_of, mat_vec_of}
 use Rattle.vector.proofs.mat_vec.Goals as goal
 
-pub loop-i-init : goal.loop-i-init
-unfolding mat_vec_of of_bits
-loop-i-init c = start c.requires refl
-
-pub loop-i-preserved : goal.loop-i-preserved
-unfolding mat_vec_of of_bits
-loop-i-preserved c = filled c.loop-i.invariant c.loop-i-test.true c.row_dot.ensures
-
 pub returns : goal.returns
-unfolding mat_vec_of of_bits
-returns c = done c.loop-i.invariant c.loop-i-test.false
+unfolding mat_vec_of
+returns c = c.filled.ensures (λ i. row_dot_of c.args.h.now i c.args.v c.args.n) (λ i l v p. search rules)

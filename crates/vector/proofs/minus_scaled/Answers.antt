@@ -1,18 +1,10 @@
--- `vector::minus_scaled` meets its contract: after i turns it has made what the definition makes of i. Assumes nothing.
-use mathlib.Core.Path.{refl}
-use lib.Ieee.{of_bits}
+-- `vector::minus_scaled` meets its contract. Assumes nothing.
+use Rattle.std.proofs.Common.{rules}
+use Rattle.float.specs.Binary64.{◌⊖◌, ◌⊗◌}
+use Rattle.vector.specs.Loops.{at}
 use Rattle.vector.specs.Points.{minus_scaled_of}
-use Rattle.vector.proofs.Loops.{start, filled, done}
 use Rattle.vector.proofs.minus_scaled.Goals as goal
 
-pub loop-i-init : goal.loop-i-init
-unfolding minus_scaled_of of_bits
-loop-i-init c = start c.requires refl
-
-pub loop-i-preserved : goal.loop-i-preserved
-unfolding minus_scaled_of of_bits
-loop-i-preserved c = filled c.loop-i.invariant c.loop-i-test.true refl
-
 pub returns : goal.returns
-unfolding minus_scaled_of of_bits
-returns c = done c.loop-i.invariant c.loop-i-test.false
+unfolding minus_scaled_of
+returns c = c.filled.ensures (λ i. at c.args.x i ⊖ c.args.t ⊗ at c.args.d i) (λ i l v p. search rules)

@@ -1,18 +1,10 @@
--- `vector::negation` meets its contract: after i turns it has made what the definition makes of i. Assumes nothing.
-use mathlib.Core.Path.{refl}
-use lib.Ieee.{of_bits}
+-- `vector::negation` meets its contract. Assumes nothing.
+use lib.Ieee.{neg}
+use Rattle.std.proofs.Common.{rules}
+use Rattle.vector.specs.Loops.{at}
 use Rattle.vector.specs.Points.{negation_of}
-use Rattle.vector.proofs.Loops.{start, filled, done}
 use Rattle.vector.proofs.negation.Goals as goal
 
-pub loop-i-init : goal.loop-i-init
-unfolding negation_of of_bits
-loop-i-init c = start c.requires refl
-
-pub loop-i-preserved : goal.loop-i-preserved
-unfolding negation_of of_bits
-loop-i-preserved c = filled c.loop-i.invariant c.loop-i-test.true refl
-
 pub returns : goal.returns
-unfolding negation_of of_bits
-returns c = done c.loop-i.invariant c.loop-i-test.false
+unfolding negation_of
+returns c = c.filled.ensures (λ i. neg (at c.args.a i)) (λ i l v p. search rules)

@@ -1,18 +1,11 @@
--- `vector::row_dot` meets its contract: after j turns it has made what the definition makes of j. Assumes nothing.
-use mathlib.Core.Path.{refl}
-use lib.Ieee.{of_bits, neg}
+-- `vector::row_dot` meets its contract. Assumes nothing.
+use lib.Ieee.{neg, of_bits}
+use Rattle.std.proofs.Common.{rules, ◌+◌, ◌*◌}
+use Rattle.float.specs.Binary64.{◌⊕◌, ◌⊗◌}
+use Rattle.vector.specs.Loops.{at}
 use Rattle.vector.specs.Points.{row_dot_of}
-use Rattle.vector.proofs.Loops.{start, carried, done}
 use Rattle.vector.proofs.row_dot.Goals as goal
 
-pub loop-j-init : goal.loop-j-init
-unfolding row_dot_of of_bits neg
-loop-j-init c = start c.requires.n_bound refl
-
-pub loop-j-preserved : goal.loop-j-preserved
-unfolding row_dot_of of_bits neg
-loop-j-preserved c = carried c.loop-j.invariant c.loop-j-test.true refl
-
 pub returns : goal.returns
-unfolding row_dot_of of_bits neg
-returns c = done c.loop-j.invariant c.loop-j-test.false
+unfolding row_dot_of neg of_bits
+returns c = c.folded.ensures (λ s j. s ⊕ at c.args.h.now (c.args.i * 16 + j) ⊗ at c.args.v j) (λ s i l v p. search rules)

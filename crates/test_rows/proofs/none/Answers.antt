@@ -1,8 +1,0 @@
--- `test_rows::none` meets its contract: each return follows the calls and tests that led to it. Assumes nothing.
-use mathlib.Core.Path.{refl}
-use Rattle.test_rows.specs.Rows.{none_of}
-use Rattle.test_rows.proofs.none.Goals as goal
-
-pub returns : goal.returns
-unfolding none_of
-returns c = refl
