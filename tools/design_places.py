@@ -22,7 +22,7 @@ POINTS = {
 
 def heads(text):
     """The heads of the functions in a source: from `fn` to the line of `{`."""
-    for found in re.finditer(r"^\s*(pub )?(extern \"C\" )?(unsafe )?fn .*?^\s*\{|^\s*(pub )?(extern \"C\" )?fn [^\n]*\{$", text, re.M | re.S):
+    for found in re.finditer(r"^ *(pub )?(extern \"C\" )?(unsafe )?fn .*?^\s*\{|^ *(pub )?(extern \"C\" )?fn [^\n]*\{$", text, re.M | re.S):
         yield text[: found.start()].count("\n") + 1, found.group(0)
 
 

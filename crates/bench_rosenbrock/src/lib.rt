@@ -1,8 +1,10 @@
 // Fits of Rosenbrock's chain by the engine, for the benchmark: who links the archive times whole fits, and the
-// objective alone. The contracts bound the count of questions and say no more; all is proved safe and ending.
+// objective alone. The contracts bound the count of questions, and say what is given where nothing is evaluated, and no
+// more; all is proved safe and ending.
 #![tactic(auto)]
 
-ghost use Rattle.std.specs.Prelude.{◌≡◌, ◌≤◌, length};
+ghost use Rattle.std.specs.Prelude.{◌≡◌, ◌≤◌, true};
+ghost use Rattle.float.specs.Binary64.{plus_zero};
 ghost use Rattle.bench_rosenbrock.specs.Most.{outside_of, most_of};
 
 use optim::{Answered, Record};
@@ -78,7 +80,8 @@ impl Point {
         }
     }
 
-    // Puts the point and m at `at`, where there is room for them: the place behind them.
+    // Puts the point and m at `at`, where there is room for them: the place behind them. The place stands beside the
+    // list, which is fixed memory that who calls lends.
     fn put(&self, list: &mut [f64], at: usize, m: f64) -> usize {
         let n = self.n;
         if list.len() <= at || list.len() - at <= n {
@@ -90,32 +93,28 @@ impl Point {
     }
 }
 
-// The first reply of job 1 (simplex), 2 (bfgs) or else lbfgs, with the Rust's defaults for all options.
+// The first reply of job 1 (simplex), 2 (bfgs) or else lbfgs, with the Rust's defaults for all options: written here too
+// as `c_fit` has them, since the benchmark stands on no crate of functions for C. The job is a number, and `gradients` a
+// flag, for who calls from C.
 fn started(job: u64, n: usize, gradients: bool) -> Answered
     requires { n ≤ 16 }
 {
-    let all = Allowances {
-        iter: None,
-        fevals: None,
-    };
+    let all = Allowances::default();
     let x = Point::begin(n).x;
-    if job == SIMPLEX {
-        let o = SimplexOptions {
-            xtol: 1e-8,
-            ftol: 1e-8,
-            step: 0.05,
-            restarts: 0,
-            adaptive: true,
-        };
-        return optim::simplex(&x[..n], o, all);
-    }
+    let simplex = SimplexOptions {
+        xtol: 1e-8,
+        ftol: 1e-8,
+        step: 0.05,
+        restarts: 0,
+        adaptive: true,
+    };
     let wolfe = WolfeOptions {
         c1: 1e-4,
         c2: 0.9,
         stepmax: 1e10,
         evals: 30,
     };
-    let o = GradientOptions {
+    let gradient = GradientOptions {
         gradtol: 1e-8,
         ftol: 0.0,
         xtol: 0.0,
@@ -123,10 +122,11 @@ fn started(job: u64, n: usize, gradients: bool) -> Answered
         memory: 10,
         gradients,
     };
-    if job == BFGS {
-        return optim::bfgs(&x[..n], o, all);
+    match job {
+        SIMPLEX => optim::simplex(&x[..n], simplex, all),
+        BFGS => optim::bfgs(&x[..n], gradient, all),
+        _ => optim::lbfgs(&x[..n], gradient, all),
     }
-    optim::lbfgs(&x[..n], o, all)
 }
 
 // The open question's number and kind, none where the fit is over.
@@ -137,7 +137,8 @@ fn question(said: Said) -> Option<(u64, Kind)> {
     }
 }
 
-// What stands behind a point in the list of questions: 0 for a value's, 1 for a gradient's, f for the outcome's.
+// What stands behind a point in the list of questions: 0 for a value's, 1 for a gradient's, f for the outcome's,
+// -1 for all else: a number and no enum, since it is put among the point's.
 fn mark(said: Said) -> f64 {
     match said {
         Said::Ask(_, Kind::Value) => 0.0,
@@ -151,7 +152,7 @@ fn mark(said: Said) -> f64 {
 fn told(r: Record, p: &Point, number: u64, kind: Kind) -> Answered {
     let w = p.words(kind);
     let count = p.count_of(kind);
-    optim::answer(r, number, protocol::letter(kind), &w[..count])
+    optim::answer(r, number, kind.into(), &w[..count])
 }
 
 // Whether n is none that a fit is started with.
@@ -185,9 +186,13 @@ pub extern "C" fn rosenbrock_fit(job: u64, n: usize, gradients: bool, list: &mut
     MOST
 }
 
-// Evaluates the objective `count` times, each time at a point that depends on what the last gave: what it gave last.
+// Evaluates the objective `count` times, each time at a point that depends on what the last gave: what it gave last, 0
+// where n is not from 1 to 16 or count is 0. `slope` is a flag, and no Kind, for who calls from C.
 #[unsafe(no_mangle)]
-pub extern "C" fn rosenbrock_objective(n: usize, slope: bool, count: u64) -> f64 {
+pub extern "C" fn rosenbrock_objective(n: usize, slope: bool, count: u64) -> f64
+    ensures outside { outside_of n ≡ true → result ≡ plus_zero }
+    ensures never { count ≡ 0 → result ≡ plus_zero }
+{
     if outside(n) {
         return 0.0;
     }

@@ -1,6 +1,6 @@
-// Parts of the engine for C to call: each function is `#[unsafe(no_mangle)] pub extern "C"`, has no `requires`, and calls the library's own.
-// include/fit.h declares them. A caller that is not Rattle is checked by nothing. The options and the reply of whole fits, which c_fit
-// exports, have their types here.
+// Parts of the engine for C to call: the functions marked `#[unsafe(no_mangle)] pub extern "C"`, here and in lists and options. include/fit.h
+// declares them. They have no `requires`, since a caller that is not Rattle is checked by nothing. The types that allowances, refusals and
+// replies have in C are here too; c_fit's whole fits take and hand back the same.
 #![tactic(auto)]
 
 mod lists;
@@ -16,7 +16,7 @@ ghost use Rattle.objective.specs.Algorithm.{forward_of, backward_of, slope_at};
 
 use objective::Differences;
 pub use options::{Allowance, Allowances, GradientOptions, SimplexOptions, WolfeOptions};
-pub use reply::{Reply, hand};
+pub use reply::Reply;
 
 #[unsafe(no_mangle)]
 pub extern "C" fn fit_sqrt(x: f64) -> f64
@@ -78,20 +78,11 @@ pub extern "C" fn fit_backward(x: f64) -> f64
     objective::backward(x)
 }
 
-// The central difference at x, where fp was told forward and fm backward: the engine's own step, in one
-// coordinate.
+// The central difference at x, where fp was told forward and fm backward: the engine's own step, at the first of sixteen coordinates.
+#[tactic(auto, unfolding(objective::specs::Step::begun_of, objective::specs::Step::told_of))]
 #[unsafe(no_mangle)]
 pub extern "C" fn fit_slope(x: f64, fp: f64, fm: f64) -> f64
     ensures { result ≡ slope_at x fp fm }
 {
-    let s = Differences {
-        at: 0,
-        forward: true,
-        value: fp,
-        x: [x; 16],
-        g: [0.0; 16],
-    };
-    let t = s.told(fm);
-    let g = t.g;
-    g[0]
+    Differences::begun([x; 16]).told(fp).told(fm).g[0]
 }

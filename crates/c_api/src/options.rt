@@ -1,5 +1,5 @@
-// The refusals that a start's options meet. The structs of options are protocol's own, which have C's layout; an allowance and a
-// refusal have C's form here, since an enum does not cross.
+// The refusals that a start's options meet. The structs of options are protocol's own, which have C's layout. An allowance is an Option
+// there, and what a start meets a Result: neither crosses to C, so both have structs here.
 ghost use Rattle.std.specs.Prelude.{◌≡◌};
 ghost use Rattle.optim_first_record.specs.Starts.{simplex_refusal_of, gradient_refusal_of, search_refusal_of};
 ghost use Rattle.c_api.specs.Options.{to_allowance_of, to_allowances_of, from_refusal_of, from_result_of};

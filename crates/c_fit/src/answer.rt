@@ -4,7 +4,7 @@ ghost use Rattle.optim_lists.specs.Lists.{lists};
 ghost use Rattle.optim_lists.specs.Answered.{answered_of, point_after, slopes_after};
 ghost use Rattle.c_fit.specs.Handed.{handed_of};
 
-use c_api::{Reply, hand};
+use c_api::Reply;
 use optim_lists::Lent;
 
 // An answer: its number, its kind's letter and its words. A refused or repeated one leaves every array of the record as it was.
@@ -68,6 +68,5 @@ pub extern "C" fn fit_record_answer(
         changes,
         factors,
     };
-    let said = optim_lent::answer(lent, number, kind, words, point, slopes);
-    hand(said)
+    optim_lent::answer(lent, number, kind, words, point, slopes).into()
 }

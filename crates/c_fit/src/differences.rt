@@ -5,7 +5,7 @@ ghost use Rattle.optim_lists.specs.Lists.{lists};
 ghost use Rattle.optim_lists.specs.Answered.{started_of, point_after, slopes_after};
 ghost use Rattle.c_fit.specs.Handed.{handed_of};
 
-use c_api::{Reply, hand};
+use c_api::Reply;
 use optim_lists::Lent;
 
 // Central differences at x.
@@ -67,6 +67,5 @@ pub extern "C" fn fit_record_differences(
         changes,
         factors,
     };
-    let said = optim_lent::differences(lent, x, point, slopes);
-    hand(said)
+    optim_lent::differences(lent, x, point, slopes).into()
 }

@@ -6,7 +6,7 @@ ghost use Rattle.optim_lists.specs.Answered.{started_of, point_after, slopes_aft
 ghost use Rattle.c_api.specs.Options.{to_allowances_of};
 ghost use Rattle.c_fit.specs.Handed.{handed_of};
 
-use c_api::{Allowances, GradientOptions, Reply, hand};
+use c_api::{Allowances, GradientOptions, Reply};
 use optim_lists::Lent;
 
 // A fit by lbfgs at x.
@@ -70,6 +70,5 @@ pub extern "C" fn fit_record_lbfgs(
         changes,
         factors,
     };
-    let said = optim_lent::lbfgs(lent, x, o, a.into(), point, slopes);
-    hand(said)
+    optim_lent::lbfgs(lent, x, o, a.into(), point, slopes).into()
 }

@@ -5,7 +5,7 @@ ghost use Rattle.optim_lists.specs.Lists.{lists};
 ghost use Rattle.optim_lists.specs.Answered.{started_of, point_after, slopes_after};
 ghost use Rattle.c_fit.specs.Handed.{handed_of};
 
-use c_api::{Reply, WolfeOptions, hand};
+use c_api::{Reply, WolfeOptions};
 use optim_lists::Lent;
 
 // A search from x along d, where the value is f0 and the gradient g, with the first step `step`.
@@ -73,6 +73,5 @@ pub extern "C" fn fit_record_search(
         changes,
         factors,
     };
-    let said = optim_lent::search(lent, x, d, f0, g, step, o, gradients, point, slopes);
-    hand(said)
+    optim_lent::search(lent, x, d, f0, g, step, o, gradients, point, slopes).into()
 }

@@ -6,7 +6,7 @@ ghost use Rattle.optim_lists.specs.Answered.{started_of, point_after, slopes_aft
 ghost use Rattle.c_api.specs.Options.{to_allowances_of};
 ghost use Rattle.c_fit.specs.Handed.{handed_of};
 
-use c_api::{Allowances, Reply, SimplexOptions, hand};
+use c_api::{Allowances, Reply, SimplexOptions};
 use optim_lists::Lent;
 
 // A simplex fit at x.
@@ -70,6 +70,5 @@ pub extern "C" fn fit_record_simplex(
         changes,
         factors,
     };
-    let said = optim_lent::simplex(lent, x, o, a.into(), point, slopes);
-    hand(said)
+    optim_lent::simplex(lent, x, o, a.into(), point, slopes).into()
 }

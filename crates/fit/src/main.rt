@@ -34,8 +34,8 @@ impl From<Lost> for End {
     }
 }
 
-// Writes all the bytes, or stops at the first write that takes nothing or fails. The library's `write_all`
-// does not say what was written of a text where it fails.
+// Writes all the bytes, or stops at the first write that takes nothing or fails. The library's `write_all` does not
+// say what was written of a text where it fails. A `while`: each write says itself how many bytes it took.
 fn write_reply<W: Write>(output: &mut W, bytes: &[u8]) -> Result<(), Lost>
     ensures { Wrote (is_ok result) (W.contents output.old) (W.contents output.new) bytes.now }
 {
@@ -62,7 +62,8 @@ fn line_fed<W: Write>(output: &mut W, p: Place, s: &[u8], from: usize) -> Result
     Ok(step)
 }
 
-// A part of the input, line by line, up to a reply that is lost.
+// A part of the input, line by line, up to a reply that is lost. A `while`: the scan alone knows how many bytes a line
+// has. A `for` over `split_inclusive` was tried: in a generic function the check's own term for it has a wrong type.
 fn fed_part<W: Write>(output: &mut W, p: Place, s: &[u8]) -> Result<Place, Lost>
     ensures place { IfOk result (λ q. q ≡ (passed_of p s.now).1) }
     ensures replies { Wrote (is_ok result) (W.contents output.old) (W.contents output.new)
@@ -111,28 +112,24 @@ fn run<R: Read, W: Write>(input: &mut R, output: &mut W) -> Result<(), End>
             }
             Ok(n) => place = fed_part(output, place, &buf[..n])?,
         }
-        match place.state.due {
-            Form::Stopped => return Ok(()),
-            _ => {}
+        // One form is asked for, by its equality: a match would have a second arm that does nothing.
+        if place.state.due == Form::Stopped {
+            return Ok(());
         }
     }
     Err(End::Unfinished)
-}
-
-fn say_read_failed(rt: &impl Eprint) {
-    let _ = rt.eprintln("fit: a read of standard input failed");
-}
-
-fn say_write_failed(rt: &impl Eprint) {
-    let _ = rt.eprintln("fit: a write to standard output failed");
 }
 
 // Neither stream has a buffer: a write reaches the system as it is made. No contract knows what a stream of
 // the system gives or takes, so `run` speaks of any reader and writer whose bytes are known.
 fn main(rt: HostRuntime) {
     match run(&mut rt.stdin(), &mut rt.stdout()) {
-        Err(End::ReadFailed) => say_read_failed(&rt),
-        Err(End::WriteFailed) => say_write_failed(&rt),
+        Err(End::ReadFailed) => {
+            let _ = rt.eprintln("fit: a read of standard input failed");
+        }
+        Err(End::WriteFailed) => {
+            let _ = rt.eprintln("fit: a write to standard output failed");
+        }
         Err(End::Unfinished) | Ok(()) => {}
     }
 }

@@ -9,9 +9,8 @@ use Rattle.std.specs.Prelude.{Some}
 use Rattle.std.proofs.lemmas.Option.{cond_some}
 use Rattle.vector.proofs.Loops.{length_upto}
 use Rattle.lines_field.specs.declared.Reading.{Reading}
-use Rattle.lines_forms.specs.declared.AnswerLine.{AnswerLine}
 use Rattle.lines_reader.specs.declared.LineRead.{LineRead}
-use Rattle.lines_forms.specs.Lines.{value_at, words_of, point_holds_of, answer_holds_of, point_line_of, answer_line_of}
+use Rattle.lines_forms.specs.Lines.{value_at, words_of, point_holds_of, point_line_of}
 use Rattle.fit_state.specs.States.{kept_of}
 
 words_long : (vs : List Reading) (from : ℕ) → length (words_of vs from 17) ≡ 17
@@ -22,9 +21,3 @@ words_long vs from = length_upto (λ i. value_at vs (from + i)) 17
 pub point_lent : (x : List Float) (l : LineRead) (n k : ℕ) → Some x ≡ point_line_of l n → k ≡ kept_of n → k ≤ length x
 unfolding point_line_of
 point_lent x l n k e f = omega (arith, f, ap length (cond_some (point_holds_of l n) _ x (sym e)).1, words_long l.fields 0)
-
-pub answer_lent : (a : AnswerLine) (l : LineRead) → Some a ≡ answer_line_of l → a.count ≤ length a.words
-unfolding answer_line_of
-answer_lent a l e =
-    let same = (cond_some (answer_holds_of l) _ a (sym e)).1 in
-    omega (arith, ap (λ (q : AnswerLine). q.count) same, ap (λ (q : AnswerLine). length q.words) same, words_long l.fields 2)

@@ -1,5 +1,6 @@
 // What each line of the fit program brings where it is due: what is printed, put at the start of a lent
-// buffer, and the next state.
+// buffer, and the next state. Buffer, state and line stay three arguments: the buffer is lent by who calls, state
+// and line are values, and a struct of the three would be made anew for each call.
 #![tactic(auto)]
 
 ghost use Rattle.std.specs.Prelude.{◌≡◌, length};
@@ -46,7 +47,8 @@ pub fn second(out: &mut [u8; 512], s: State, l: LineRead) -> Turn
     Turn { count: 0, state }
 }
 
-// Line 2 of bfgs and lbfgs. Its options stand in another field, which is all that tells it from that of simplex.
+// Line 2 of bfgs and lbfgs. It differs from that of simplex in what reads it and in the field that it fills: one form
+// for both would be given two closures, and be longer.
 #[tactic(auto, unfolding(crate::specs::Turns::second_gradient_of))]
 pub fn second_gradient(out: &mut [u8; 512], s: State, l: LineRead) -> Turn
     ensures { Turned (second_gradient_of s l) out.old out.new result }
@@ -62,7 +64,8 @@ pub fn second_gradient(out: &mut [u8; 512], s: State, l: LineRead) -> Turn
     Turn { count: 0, state }
 }
 
-// A reply of the engine.
+// Prints a reply of the engine, and returns its length. Those of a search and of differences, which no fit gets, print
+// nothing.
 #[tactic(auto, unfolding(optim_record::specs::Record::outcome_of))]
 fn shown(out: &mut [u8; 512], a: Answered) -> usize
     requires { Few (outcome_of a).0 a.next.n }
@@ -77,7 +80,7 @@ fn shown(out: &mut [u8; 512], a: Answered) -> usize
     }
 }
 
-// The form of the line that is due after the reply to a start: none after a refusal.
+// The form of the line that is due after the reply to a start: `Stopped` after a refusal.
 #[tactic(auto, unfolding(crate::specs::Turns::due_after, optim_record::specs::Record::outcome_of, protocol::specs::Protocol::reply_of))]
 fn due_after(a: Answered) -> Form
     ensures { result ≡ due_after (outcome_of a).0 }
@@ -91,7 +94,7 @@ fn due_after(a: Answered) -> Form
     }
 }
 
-// The fit is started at x.
+// The fit is started at x. This and `told` end alike: one function for both costs more, as fit_state says.
 fn started(out: &mut [u8; 512], s: State, x: &[f64]) -> Turn
     ensures { Turned (started_of s x.now) out.old out.new result }
 {
@@ -137,6 +140,5 @@ pub fn heard(out: &mut [u8; 512], s: State, l: LineRead) -> Turn
     let Some(f) = lines_options::answer_line(l) else {
         return bad(out, s);
     };
-    let words = f.words;
-    told(out, s, f.number, f.kind, &words[..f.count])
+    told(out, s, f.number, f.kind, f.lent())
 }

@@ -13,7 +13,10 @@ use protocol::{Allowances, BFGS, GradientOptions, SIMPLEX, SimplexOptions};
 
 // The state between two lines. `due` is the form of the line that is due, `Stopped` once the program has stopped.
 // `number` is that line's number. The job's mark, n, the options (those of simplex, or `gradient`) and allowances
-// are what lines 1 and 2 said, `engine` is the engine's record. The mark is a number, as line 1's field gives it.
+// are what lines 1 and 2 said, `engine` is the engine's record. No enum holds the job with its options: line 1 says the
+// job and line 2 its options, so that it would have no value between the two. The mark, one of `protocol`'s, is a number:
+// what line 1's field reads as, and what a record keeps. What moves it is written as functions: as methods, and with one
+// function in fit_line for what a reply brings, a question costs the fit program a third more instructions.
 #[derive(Clone, Copy)]
 pub struct State {
     pub due: Form,
@@ -33,8 +36,8 @@ pub struct Turn {
     pub state: State,
 }
 
-// Where a scan of bytes came to, whether a line feed ended it, and the line as far as it has come. The place and
-// the line are there either way.
+// Where a scan of bytes came to, whether a line feed ended it, and the line as far as it has come. `ended` is a flag
+// and no Option: the place and the line are there either way.
 #[derive(Clone, Copy)]
 pub struct Scan {
     pub at: usize,
@@ -54,10 +57,7 @@ pub fn begun() -> State
         n: 0,
         options: optim_record::no_options(),
         gradient: optim_record::no_gradient_options(),
-        allowances: Allowances {
-            iter: None,
-            fevals: None,
-        },
+        allowances: Allowances::default(),
         engine: optim::blank(),
     }
 }
@@ -100,10 +100,10 @@ pub fn bad(out: &mut [u8; 512], s: State) -> Turn
 pub fn form_after(job: u64) -> Form
     ensures { result ≡ form_after job }
 {
-    if job == SIMPLEX {
-        return Form::SimplexLine2;
+    match job {
+        SIMPLEX => Form::SimplexLine2,
+        _ => Form::GradientLine2,
     }
-    Form::GradientLine2
 }
 
 // The engine's reply to the start of the job at x.
@@ -111,16 +111,16 @@ pub fn form_after(job: u64) -> Form
 pub fn start(s: State, x: &[f64]) -> Answered
     ensures { outcome_of result ≡ start_of s x.now }
 {
-    if s.job == SIMPLEX {
-        return optim::simplex(x, s.options, s.allowances);
+    match s.job {
+        SIMPLEX => optim::simplex(x, s.options, s.allowances),
+        BFGS => optim::bfgs(x, s.gradient, s.allowances),
+        _ => optim::lbfgs(x, s.gradient, s.allowances),
     }
-    if s.job == BFGS {
-        return optim::bfgs(x, s.gradient, s.allowances);
-    }
-    optim::lbfgs(x, s.gradient, s.allowances)
 }
 
-// Feeds the bytes from a place on to the line, up to the first line feed or to their end.
+// Feeds the bytes from a place on to the line, up to the first line feed or to their end. The whole part is lent with
+// the place, and no rest of it: where the scan came to is handed back as a place in the whole part, which is why the loop goes by
+// places.
 pub fn scanned(s: &[u8], from: usize, r: Reader) -> Scan
     ensures { result ≡ scanned_of from (drop from s.now) r }
 {

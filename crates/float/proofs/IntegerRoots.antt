@@ -22,10 +22,6 @@ not_below n h r l m = le_of_suc-le-suc (lt_of_not-le (λ (g : suc r ≤ h). no g
     no : suc r ≤ h → ⊥
     no g = omega (arith, mul-le-mul {n₁ = r + 1} {m₁ = r + 1} {n₂ = h} {m₂ = h} (omega arith) (omega arith))
 
--- ---- the guess: its product
-pub product : (w : ℕ) → w < 2 ^ 60 → w / 2 ^ 44 * (1_100_000 - w / 2 ^ 44 * 5) ≤ 2 ^ 16 * 1_100_000
-product w h = mul-le-mul {n₁ = w / 2 ^ 44} {m₁ = 1_100_000 - w / 2 ^ 44 * 5} {n₂ = 2 ^ 16} {m₂ = 1_100_000} (omega arith) (omega arith)
-
 -- ---- Newton's step: half of g + n / g, rounded down, is not below the root, since twice a product is at most the sum of the squares
 twice_product : (a b : ℕ) → a * b + a * b ≤ a * a + b * b
 twice_product a b = elim (dec_le a b) [ yes h ↦ up a b h | no n ↦ omega (arith, up b a (le_of_lt (lt_of_not-le n)), mul_comm a b) ]
@@ -43,12 +39,6 @@ mean n g m p h =
 
 pub stepped : {n r : ℕ} (g : ℕ) → 0 < g → g + n / g < r * 2 + 2 → r < 2 ^ 32 → NotBelowRoot n r
 stepped {n} {r} g p h l = record { small = l; most = mean n g (r + 1) p (omega arith) }
-
--- what a turn of the loop of `word_root` leaves
-pub lowered : (n r : ℕ) → 0 < r → NotBelowRoot n r → n < r * r → NotBelowRoot n (r - 1)
-lowered n r p h l =
-    let again : (r - 1 + 1) * (r - 1 + 1) ≡ r * r = ap (λ (x : ℕ). x * x) (omega arith) in
-    record { small = omega (arith, h.small); most = omega arith }
 
 pub quotient_small : (n g : ℕ) → n < 2 ^ 60 → 2 ^ 28 ≤ g → n / g < 2 ^ 32
 quotient_small n g l h = (div-lt_iff_lt-mul {k = g} {x = n} {y = 2 ^ 32} (omega arith)).1 (omega (arith, mul-le-mul {n₁ = 2 ^ 32} {m₁ = 2 ^ 28} {n₂ = 2 ^ 32} {m₂ = g} (omega arith) h))

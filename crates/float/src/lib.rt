@@ -1,5 +1,7 @@
-// What Rust's f64 has as methods, worked out from the bits of a value: sign, exponent and fraction
-// taken apart by shifts and masks. A NaN's bits are free and are never read, so it goes first.
+// What the fits take of an f64 beside its operations and comparisons: most of it Rust's f64 has as a method, and here it is worked
+// out from the bits of a value, as the requirement (01) asks: sign, exponent and fraction are taken apart by shifts and masks. Which bits
+// a NaN has is not fixed: they are never read, and a NaN is looked for first. What is worked out is claimed to be bit for bit the
+// Rust's: the library's max and min leave open which of two equal values they give, 0.0 or -0.0, and its total_cmp takes no NaN.
 #![tactic(auto)]
 
 ghost use Rattle.std.specs.Prelude.{◌≡◌, ◌*◌, ◌^◌, ◌≤◌, ◌<◌, pos};
@@ -43,7 +45,7 @@ pub fn tolerance(x: f64) -> bool
     0.0 <= x && is_finite(x)
 }
 
-// Likewise, and not zero. One function of both would say no less.
+// Likewise, and not zero. The two differ in one comparison: one function of both would need a word for which, and be no shorter.
 pub fn positive(x: f64) -> bool
     ensures { result ≡ positive_of x }
 {
@@ -101,7 +103,8 @@ fn less(a: f64, b: f64) -> bool
     rank(a) < rank(b)
 }
 
-// max and min ask `less` of the operands in either order: one function of both would say no less.
+// max and min ask `less` of their operands, each in its own order: one function of both would need a word for which, and be no
+// shorter. A NaN is passed over, and of two that are equal the first is returned.
 pub fn max(a: f64, b: f64) -> f64
     ensures { result ≡ max_of a b }
 {
@@ -120,7 +123,7 @@ pub fn min(a: f64, b: f64) -> f64
     if less(b, a) { b } else { a }
 }
 
-// The key of `total_cmp`.
+// The key of `total_cmp`. It and `rank` differ in what a negative value becomes, and each meets a definition of its own.
 #[tactic(auto, using(crate::proofs::Bits::number))]
 pub fn key(x: f64) -> i64
     ensures { result ≡ key_of x }
@@ -176,7 +179,8 @@ fn full_width(b: u64) -> Scaled
     }
 }
 
-// A guess at the root of w: a parabola of the highest 16 of its 60 bits, less than 1 in 100 away.
+// A guess at the root of w: a parabola of the highest 16 of its 60 bits, less than 1 in 100 away. Here and below w < 2 ^ 60 is the
+// one width that the root takes; no type says it more shortly.
 fn guess(w: u64) -> u64
     requires { w < 2 ^ 60 }
     ensures { result ≡ guess_of w }
@@ -196,7 +200,7 @@ fn newton(w: u64, g: u64) -> u64
 }
 
 // The integer square root of w. Two steps bring the guess to it or to one more, which the loop takes
-// off. No proof leans on the guess being near: a far one would cost turns.
+// off: it counts no index, so that it is a `while`. No proof leans on the guess being near: a far one would cost turns.
 fn word_root(w: u64) -> u64
     requires w_large { 2 ^ 58 ≤ w }
     requires w_bound { w < 2 ^ 60 }

@@ -1,5 +1,5 @@
--- Numbers and values as lists of bytes, and a buffer that a text is put into. Definitions only.
-use Rattle.std.specs.Prelude.{ℕ, zero, suc, ◌+◌, ◌/◌, ◌%◌, cond, List, [], ◌∷◌, ◌++◌, length, drop, ltb, Float}
+-- Numbers and values as lists of bytes, and what a text put into a buffer leaves. Definitions only.
+use Rattle.std.specs.Prelude.{ℕ, zero, suc, ◌+◌, ◌/◌, ◌%◌, ◌≡◌, cond, List, [], ◌∷◌, ◌++◌, length, take, drop, ltb, Float}
 use Rattle.std.specs.Float.Ieee.{to_bits}
 use Rattle.std.specs.Float.{binary64}
 
@@ -8,6 +8,13 @@ use Rattle.std.specs.Float.{binary64}
 -- the buffer with a text at its start: its other bytes stand
 abbrev pub filled : List ℕ → List ℕ → List ℕ
 filled before text = text ++ drop (length text) before
+
+-- text is put at a place of a buffer, `next` is the place after it, and the bytes before and past it stand
+pub record Written (before : List ℕ) (at : ℕ) (after : List ℕ) (next : ℕ) (text : List ℕ) : Type 0 where
+  pub long : length after ≡ length before
+  pub place : next ≡ at + length text
+  pub bytes : take next after ≡ take at before ++ text
+  pub rest : drop next after ≡ drop next before
 
 -- ---- numbers
 

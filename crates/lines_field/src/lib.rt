@@ -5,7 +5,7 @@ ghost use Rattle.std.specs.Prelude.{◌≡◌};
 ghost use Rattle.lines_field.specs.Shapes.{digit_in, fits, given, number_in};
 ghost use Rattle.lines_field.specs.Fields.{grow_of, blank_field_of, lengthened_of, added_of, counted_of, spells_of, word_of, decimal_of, maybe_of, flag_of, letter_of, job_of, judged_of};
 
-use protocol::{BFGS, GRADIENT, LBFGS, SIMPLEX, VALUE};
+use protocol::{BFGS, Kind, LBFGS, SIMPLEX};
 
 // What the place of a field asks for; `Nothing` where there is to be none.
 #[derive(Clone, Copy, PartialEq, Eq)]
@@ -19,7 +19,8 @@ pub enum Shape {
     Nothing,
 }
 
-// A field read as what its place asks for: it is not that, it is `-`, or it has a number.
+// A field read as what its place asks for: it is not that, it is `-`, or it has a number. An enum of its own: `None`
+// and `Some(None)` of an Option in an Option would not say which is which.
 #[derive(Clone, Copy, PartialEq, Eq)]
 pub enum Reading {
     Unfit,
@@ -34,8 +35,7 @@ impl Reading {
     {
         match self {
             Reading::Unfit => false,
-            Reading::Absent => true,
-            Reading::Given(_) => true,
+            Reading::Absent | Reading::Given(_) => true,
         }
     }
 
@@ -44,13 +44,13 @@ impl Reading {
         ensures { result ≡ given self }
     {
         match self {
-            Reading::Unfit => None,
-            Reading::Absent => None,
+            Reading::Unfit | Reading::Absent => None,
             Reading::Given(word) => Some(word),
         }
     }
 
-    // Its number, 0 where it has none.
+    // Its number, 0 where it has none, as a word that a line lacks is +0.0: no Option, since who reads it has looked
+    // whether the line has its form, or wants 0 there.
     pub fn number(self) -> u64
         ensures { result ≡ number_in self }
     {
@@ -58,9 +58,9 @@ impl Reading {
     }
 }
 
-// A byte as a digit.
+// A byte as a hexadecimal digit.
 #[tactic(auto, unfolding(crate::specs::Shapes::digit_in))]
-fn digit(b: u8) -> Option<u64>
+pub fn digit(b: u8) -> Option<u64>
     ensures { result ≡ digit_in b }
 {
     match b {
@@ -82,6 +82,7 @@ fn grow(base: u64, v: Option<u64>, d: Option<u64>) -> Option<u64>
     v?.checked_mul(base)?.checked_add(d)
 }
 
+// One more, up to 17.
 fn lengthened(n: u64) -> u64
     ensures { result ≡ lengthened_of n }
 {
@@ -89,17 +90,20 @@ fn lengthened(n: u64) -> u64
 }
 
 // A number that was read is what the field is.
-fn counted(v: Option<u64>) -> Reading
-    ensures { result ≡ counted_of v }
-{
-    match v {
-        Some(word) => Reading::Given(word),
-        None => Reading::Unfit,
+impl From<Option<u64>> for Reading {
+    ghost from_gives = { λ v r. r ≡ counted_of v };
+
+    fn from(v: Option<u64>) -> Reading {
+        match v {
+            Some(word) => Reading::Given(word),
+            None => Reading::Unfit,
+        }
     }
 }
 
-// A field as far as it has come: its length, 17 for any above 16, and its number to the bases 10, 16
-// and 256. The last is the text itself: up to eight bytes are one number, and no text is kept.
+// A field as far as it has come: its length, 17 for any above 16, and its number to the bases 10, 16 and 256, none
+// where a byte is no digit of it or the number too large for a u64. To the base 256 up to eight bytes are one
+// number, so that a short text is told by it, and no text is kept.
 #[derive(Clone, Copy)]
 pub struct Field {
     pub size: u64,
@@ -136,7 +140,7 @@ impl Field {
 
     // Whether the field is a text of so many bytes, eight at most, that is this number to the base 256.
     #[tactic(auto, unfolding(crate::specs::Fields::spells_of))]
-    fn spells(self, size: u64, text: u64) -> bool
+    pub fn spells(self, size: u64, text: u64) -> bool
         ensures { result ≡ spells_of self size text }
     {
         self.size == size && self.text == Some(text)
@@ -147,7 +151,7 @@ impl Field {
         ensures { result ≡ word_of self }
     {
         if self.size == 16 {
-            return counted(self.hex);
+            return self.hex.into();
         }
         Reading::Unfit
     }
@@ -159,7 +163,7 @@ impl Field {
         if self.size == 0 {
             return Reading::Unfit;
         }
-        counted(self.dec)
+        self.dec.into()
     }
 
     #[tactic(auto, unfolding(crate::specs::Fields::maybe_of))]
@@ -172,6 +176,8 @@ impl Field {
         self.decimal()
     }
 
+    // No `match` on size and text, here and in `job`: with it a byte of a line costs 217 instructions to read, in place
+    // of 69.
     #[tactic(auto, unfolding(crate::specs::Fields::flag_of))]
     fn flag(self) -> Reading
         ensures { result ≡ flag_of self }
@@ -185,15 +191,18 @@ impl Field {
         Reading::Unfit
     }
 
+    // No `match`: the letters are those that `From<Kind>` gives, and a pattern calls nothing.
     #[tactic(auto, unfolding(crate::specs::Fields::letter_of))]
     fn letter(self) -> Reading
         ensures { result ≡ letter_of self }
     {
-        if self.spells(1, VALUE as u64) {
-            return Reading::Given(VALUE as u64);
+        let value = u8::from(Kind::Value) as u64;
+        let gradient = u8::from(Kind::Gradient) as u64;
+        if self.spells(1, value) {
+            return Reading::Given(value);
         }
-        if self.spells(1, GRADIENT as u64) {
-            return Reading::Given(GRADIENT as u64);
+        if self.spells(1, gradient) {
+            return Reading::Given(gradient);
         }
         Reading::Unfit
     }

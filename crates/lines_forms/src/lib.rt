@@ -1,7 +1,7 @@
-// What line 1, line 3 and an answer say, once the reader has read them: nothing where the line is of another form.
+// What line 1, line 3 and an answer say, once the reader has read them: none where the line has another form.
 #![tactic(auto)]
 
-ghost use Rattle.std.specs.Prelude.{◌≡◌, ◌≤◌};
+ghost use Rattle.std.specs.Prelude.{◌≡◌, ◌≤◌, take};
 ghost use Rattle.float.specs.Binary64.{bits};
 ghost use Rattle.lines_forms.specs.Lines.{words_of, whole_of, first_line_of, point_holds_of, point_line_of, answer_holds_of, answer_line_of};
 
@@ -9,15 +9,17 @@ use lines_field::Reading;
 use lines_reader::LineRead;
 use std::array;
 
-// Line 1: the job's mark (simplex 1, bfgs 2, lbfgs 3), and n. The mark is the field's number, as n is, and
-// `jobs` of fit_theory says that it is one of the three.
+// Line 1: the job's mark (simplex 1, bfgs 2, lbfgs 3), and n. The mark is the field's number, as n is, and as a record
+// keeps it: an enum would be made of it and turned back. `jobs` of fit_theory says that it is one of the three.
 #[derive(Clone, Copy)]
 pub struct FirstLine {
     pub job: u64,
     pub n: u64,
 }
 
-// An answer: its number, its letter, how many words it has, 17 for any above, and the first seventeen.
+// An answer: its number, its letter, how many words it has, 17 for any above, and the first seventeen. The letter is
+// a byte and no `Kind`, since it is what `answer` takes. There is no heap, so the words are an array beside their
+// count; an answer of seventeen is as refused as a longer one.
 #[derive(Clone, Copy)]
 pub struct AnswerLine {
     pub number: u64,
@@ -26,8 +28,18 @@ pub struct AnswerLine {
     pub words: [f64; 17],
 }
 
-// The f64 that has these bits. Every NaN pattern is taken in as one NaN.
-fn value(b: u64) -> f64
+impl AnswerLine {
+    // The words that it has, of those that are kept.
+    pub fn lent(&self) -> &[f64]
+        ensures { result.now ≡ take self.now.count self.now.words }
+    {
+        &self.words[..self.count.min(17)]
+    }
+}
+
+// The f64 that has these bits. Every NaN pattern is taken in as one NaN, since the bits of a NaN are not to
+// be read back.
+pub fn value(b: u64) -> f64
     ensures { result ≡ bits b }
 {
     if 0x7ff0_0000_0000_0000 < b & 0x7fff_ffff_ffff_ffff {

@@ -1,5 +1,5 @@
-// The lines that the fit program reads: its reader, and what each line says in the engine's types. What
-// line 2 says stands here, and all else in the crates below.
+// What line 2 of the fit program says, in the engine's types. The reader, and what the other lines say, are passed on
+// from the crates below, so that who reads a dialogue has all its lines here.
 #![tactic(auto)]
 
 ghost use Rattle.std.specs.Prelude.{◌≡◌};

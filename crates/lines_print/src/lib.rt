@@ -1,5 +1,7 @@
 // What the fit program prints: questions, results, refusals and bad lines, put at the start of a lent
-// buffer. Each public function returns how many bytes it put; the rest of the buffer stays as it was.
+// buffer. Each public function returns how many bytes it put; the rest of the buffer stays as it was. A count and no
+// slice: a slice would keep the buffer lent for as long as the turn that holds it.
+// n stands beside a point, which is sixteen numbers in every crate.
 // No `Display`: the library's `write!` does not promise that it succeeds where there is room.
 #![tactic(auto)]
 
@@ -52,7 +54,7 @@ pub fn put_ask(out: &mut [u8; 512], number: u64, kind: Kind, x: [f64; 16], n: us
     t.push_bytes(b"ask ");
     t.push_decimal(number);
     t.push(b' ');
-    t.push(protocol::letter(kind));
+    t.push(kind.into());
     t.push_values(coordinates(&x, n));
     t.push(b'\n');
     t.put(out)

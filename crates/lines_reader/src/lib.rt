@@ -1,6 +1,6 @@
-// The reader of the fit program's lines. It is fed one byte at a time and keeps no text, so that a
-// line may have any length; what a field must be is decided when it ends, by the line's form and the
-// field's place.
+// Reads a line of the fit program byte by byte. Bytes are not kept, so that the line may have any length: the field
+// that is open is a few numbers (lines_field), and when it ends it is read as the shape that the line's form asks
+// for at its place.
 #![tactic(auto)]
 
 ghost use Rattle.std.specs.Prelude.{◌≡◌, get_or};
@@ -10,8 +10,7 @@ ghost use Rattle.lines_reader.specs.Reader.{kept_of, fresh_line_of, taken_of, st
 
 use lines_field::{Field, Reading, Shape};
 
-// The forms of lines: line 1, line 2 of simplex and that of bfgs and lbfgs, line 3, an answer; before them that no
-// line is due.
+// As which line it is read: none is due, line 1, line 2 of simplex, line 2 of bfgs and lbfgs, line 3, an answer.
 #[derive(Clone, Copy, PartialEq, Eq)]
 pub enum Form {
     Stopped,
@@ -22,7 +21,7 @@ pub enum Form {
     Answers,
 }
 
-// The shapes of their fields.
+// The shapes of the fields of lines 1 and 2.
 const LINE1_SHAPES: [Shape; 2] = [Shape::Job, Shape::Decimal];
 
 const SIMPLEX_SHAPES: [Shape; 7] = [
@@ -53,11 +52,7 @@ const GRADIENT_SHAPES: [Shape; 11] = [
 fn listed(shapes: &[Shape], i: usize) -> Shape
     ensures { result ≡ get_or shapes.now i Nothing }
 {
-    if i < shapes.len() {
-        shapes[i]
-    } else {
-        Shape::Nothing
-    }
+    shapes.get(i).copied().unwrap_or(Shape::Nothing)
 }
 
 // The shape that a line's form asks for at place i.
@@ -79,7 +74,8 @@ fn shape_at(form: Form, i: usize) -> Shape
     }
 }
 
-// The first twenty are kept.
+// The fields with v at a place: the first twenty are kept. By no `get_mut`: of an array written through it the
+// library tells a proof the length, and no element.
 #[tactic(auto, unfolding(crate::specs::Reader::kept_of))]
 fn kept(mut fields: [Reading; 20], at: usize, v: Reading) -> [Reading; 20]
     ensures { result ≡ kept_of fields at v }
@@ -92,7 +88,8 @@ fn kept(mut fields: [Reading; 20], at: usize, v: Reading) -> [Reading; 20]
 
 // A line: its form, how many fields it has, whether each is what its place asks for, whether it has
 // no byte, and its first twenty fields. `ok` stands beside them, since it is the verdict on all fields, those
-// past the twentieth too, and since an empty line 3 is read though its one field is none.
+// past the twentieth too, and since an empty line 3 is read though its one field is none. There is no heap, so the
+// fields are an array, and `count` runs past what is kept: a line of any length has its count.
 #[derive(Clone, Copy)]
 pub struct LineRead {
     pub form: Form,

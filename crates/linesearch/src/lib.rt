@@ -1,7 +1,8 @@
 // The strong Wolfe search of linesearch.rs, one answer at a time. Each move takes what is told for the open
 // question, and gives the record with the next question or the outcome in it. The moves are functions, and no
-// methods: the crate that declares the record cannot see what they stand on. They tell phases apart by `if` and
-// `return`: with `match` the record is copied more often, which took 8% more instructions a fit.
+// methods: only the crate that declares the record, `linesearch_moves`, could give it methods, and these moves are a
+// crate of their own above it. The opening of a fit, in `quasinewton_round`, has moves of the same names, and says why
+// they are not these.
 #![tactic(auto)]
 
 ghost use Rattle.std.specs.Prelude.{◌≡◌, ◌≤◌};
@@ -20,7 +21,7 @@ fn graded(setup: &Setup, s: Search, g: [f64; 16]) -> Search
     requires { setup.now.fixed.n ≤ 16 }
     ensures { result ≡ graded_of setup.now.fixed setup.now.line s g }
 {
-    let t = linesearch_trials::evaluated(setup.fixed, setup.line, s.step, s.value, g);
+    let t = setup.evaluated(s.step, s.value, g);
     s.decided(setup, t)
 }
 
@@ -48,7 +49,7 @@ fn eval_gradient(setup: &Setup, mut s: Search) -> Search
         s.phase = ASKS_GRADIENT;
         return s;
     }
-    let x = linesearch_trials::point_at(setup.fixed, setup.line, s.step);
+    let x = setup.point_at(s.step);
     differing(setup, s, Differences::begun(x))
 }
 
@@ -62,7 +63,7 @@ fn valued(setup: &Setup, mut s: Search, v: f64) -> Search
     if float::is_finite(v) {
         return eval_gradient(setup, s);
     }
-    let t = linesearch_trials::infeasible(setup.fixed, setup.line, s.step, v);
+    let t = setup.infeasible(s.step, v);
     s.decided(setup, t)
 }
 
@@ -81,13 +82,11 @@ pub fn probe(setup: &Setup, s: Search) -> [f64; 16]
     requires { setup.now.fixed.n ≤ 16 }
     ensures { result ≡ probe_of setup.now.fixed setup.now.line s }
 {
-    if s.phase != ASKS_DIFFERENCE {
-        return linesearch_trials::point_at(setup.fixed, setup.line, s.step);
+    match s.phase {
+        ASKS_DIFFERENCE if s.diff.at < setup.fixed.n => s.diff.probe(),
+        ASKS_DIFFERENCE => s.diff.x,
+        _ => setup.point_at(s.step),
     }
-    if s.diff.at < setup.fixed.n {
-        return s.diff.probe();
-    }
-    s.diff.x
 }
 
 // A value is told: v is how a trial's is read, w how one for differences is. A record that asks for none
@@ -97,13 +96,11 @@ pub fn told(setup: &Setup, s: Search, v: f64, w: f64) -> Search
     requires { setup.now.fixed.n ≤ 16 }
     ensures { result ≡ told_of setup.now.fixed setup.now.line s v w }
 {
-    if s.phase == ASKS_VALUE {
-        return valued(setup, s, v);
+    match s.phase {
+        ASKS_VALUE => valued(setup, s, v),
+        ASKS_DIFFERENCE if s.diff.at < setup.fixed.n => differing(setup, s, s.diff.told(w)),
+        _ => s,
     }
-    if s.phase == ASKS_DIFFERENCE && s.diff.at < setup.fixed.n {
-        return differing(setup, s, s.diff.told(w));
-    }
-    s
 }
 
 // A gradient is told. A record that asks for none stays as it is.
@@ -112,8 +109,8 @@ pub fn told_gradient(setup: &Setup, s: Search, g: [f64; 16]) -> Search
     requires { setup.now.fixed.n ≤ 16 }
     ensures { result ≡ told_gradient_of setup.now.fixed setup.now.line s g }
 {
-    if s.phase == ASKS_GRADIENT {
-        return graded(setup, s, g);
+    match s.phase {
+        ASKS_GRADIENT => graded(setup, s, g),
+        _ => s,
     }
-    s
 }

@@ -53,6 +53,7 @@ impl Search {
         self.zoom(setup, u, self.hi)
     }
 
+    // The trial in hand is t.
     #[tactic(auto, unfolding(crate::specs::Bracketing::decided_of))]
     pub fn decided(self, setup: &Setup, t: Evaluation) -> Search
         ensures { result ≡ decided_of setup.now.fixed setup.now.line self t }

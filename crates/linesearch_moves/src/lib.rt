@@ -70,7 +70,7 @@ impl Search {
         if self.previous { self.lo } else { line.start() }
     }
 
-    // Whether there is a trial before, and its value is not above.
+    // Whether there is a trial before, and its value is not above that of t.
     #[tactic(auto, unfolding(crate::specs::Searches::risen_of))]
     pub fn risen(&self, t: Trial) -> bool
         ensures { result ≡ risen_of self.now t }
@@ -78,7 +78,7 @@ impl Search {
         self.previous && t.value >= self.lo.value
     }
 
-    // Whether the best gives way.
+    // Whether the best gives way to t, or there is none.
     #[tactic(auto, unfolding(crate::specs::Searches::lower_of))]
     fn lower(&self, t: &Evaluation) -> bool
         ensures { result ≡ lower_of self.now t.now }

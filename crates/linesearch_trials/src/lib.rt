@@ -1,5 +1,6 @@
-// The trials of a line search, functions of no record: the tests on them and the step between two of them,
-// which see a step, a value and a slope and no coordinates; what they are made of, and what refuses a start.
+// The trials of a line search: the tests on a trial and the step between two, which see steps, values and slopes
+// and no coordinates; how a trial is made at a point of the line, in `evaluations`; and what refuses a start, in
+// `refusals`. The record of a search is above, in `linesearch_moves`.
 #![tactic(auto)]
 
 mod evaluations;
@@ -9,13 +10,12 @@ ghost use Rattle.std.specs.Prelude.{◌≡◌};
 ghost use Rattle.linesearch_trials.specs.Cubic.{midpoint_of, near_end_of, d1_of, minimiser_of, interpolate_of};
 ghost use Rattle.linesearch_trials.specs.Trials.{start_of, armijo_of, curvature_of, narrow_of};
 
-pub use evaluations::{evaluated, infeasible, point_at};
 use protocol::WolfeOptions;
 pub use refusals::{counts_refusal, line_from, line_refusal, options_refusal};
 
-// How near to an end of its bracket, in widths, a trial may not come.
+// How near to an end of its bracket a trial may not come, in widths of the bracket.
 const MARGIN: f64 = 0.05;
-// Below this width, relative to the ends, no step between them is left.
+// At this width or below, relative to the larger end or to 1, no step between the ends is left.
 const MIN_REL_WIDTH: f64 = 1e-14;
 
 // The step of a trial, with the value and the slope there.
@@ -59,7 +59,7 @@ pub struct Setup {
     pub line: Line,
 }
 
-// Whether a is not finite, or at or outside the margin from either of two steps.
+// Whether a is not finite, or does not lie between two steps with more than the margin to either.
 #[tactic(auto, unfolding(crate::specs::Cubic::near_end_of))]
 fn near_end(a: f64, p: f64, q: f64) -> bool
     ensures { result ≡ near_end_of a p q }

@@ -16,7 +16,7 @@ pub fn line_from(x: [f64; 16], d: [f64; 16], f: f64, g: [f64; 16], n: usize) -> 
     Line { x, g, d, f, slope }
 }
 
-// 5, 6 and 7.
+// Refusals 5, 6 and 7: of c1 or c2, of the count of trials, of the largest step.
 #[tactic(auto, unfolding(crate::specs::Start::options_refusal_of, protocol::specs::Protocol::as_result))]
 pub fn options_refusal(o: WolfeOptions) -> Result<(), Refusal>
     ensures { result ≡ as_result (options_refusal_of o) }
@@ -42,7 +42,7 @@ pub fn options_refusal(o: WolfeOptions) -> Result<(), Refusal>
     Ok(())
 }
 
-// 9, 10 and 11, by the counts of coordinates that were lent.
+// Refusals 9, 10 and 11, by the counts of coordinates that were lent.
 #[tactic(auto, unfolding(crate::specs::Start::counts_refusal_of, protocol::specs::Protocol::as_result))]
 pub fn counts_refusal(n: usize, dcount: usize, gcount: usize) -> Result<(), Refusal>
     ensures { result ≡ as_result (counts_refusal_of n dcount gcount) }
@@ -59,22 +59,19 @@ pub fn counts_refusal(n: usize, dcount: usize, gcount: usize) -> Result<(), Refu
     Ok(())
 }
 
-// 12, 13 and 14.
+// Refusals 12, 13 and 14: of what is not finite, of the first step, of a line that does not descend.
 #[tactic(auto, unfolding(crate::specs::Start::line_refusal_of, protocol::specs::Protocol::as_result))]
 pub fn line_refusal(n: usize, l: Line, step: f64) -> Result<(), Refusal>
     requires { n ≤ 16 }
     ensures { result ≡ as_result (line_refusal_of n l step) }
 {
-    let x = l.x;
-    let d = l.d;
-    let g = l.g;
-    if !vector::all_finite(x, n) {
+    if !vector::all_finite(l.x, n) {
         return Err(Refusal::new(12, 1));
     }
-    if !vector::all_finite(d, n) {
+    if !vector::all_finite(l.d, n) {
         return Err(Refusal::new(12, 2));
     }
-    if !vector::all_finite(g, n) {
+    if !vector::all_finite(l.g, n) {
         return Err(Refusal::new(12, 3));
     }
     if !float::is_finite(l.f) {

@@ -68,7 +68,9 @@ enum Outcome {
 }
 
 // What the start fixes. The allowances are numbers: an absent one is its default. Coefficients are not
-// kept: they are made anew from n and the options, so that no record can hold others.
+// kept: they are made anew from n and the options, so that no record can hold others. quasinewton_record's `Fixed` differs in the type of
+// options alone: no function is written for both, so that a generic struct would save four lines, and put a type argument into every definition of
+// both rooms.
 #[derive(Clone, Copy)]
 pub struct Fixed {
     pub n: usize,
@@ -80,7 +82,7 @@ pub struct Fixed {
 // The simplex fit as far as it has come: what the open question is for and its point; of a simplex that
 // is built or shrunk the vertex that is asked for; rounds and runs done; the best vertex of all runs;
 // the centroid, the reflected point with its value, and the vertices.
-#[derive(Clone, Copy)]
+#[derive(Clone, Copy, Default)]
 pub struct Simplex {
     pub phase: u64,
     pub at: usize,
@@ -156,7 +158,8 @@ impl Simplex {
         }
     }
 
-    // What the value f of the reflected point comes to.
+    // What the value f of the reflected point comes to. That n is above 0 is asked by each function down from `told`: it is a number of
+    // `Fixed`, which is made of any record, so that no type of it could say so.
     #[tactic(auto, unfolding(crate::specs::Parts::reflection_of))]
     fn reflection(&self, n: usize, f: f64) -> Outcome
         requires n_nonzero { 0 < n }
@@ -237,7 +240,7 @@ impl Simplex {
         ensures goes { result ≡ reflecting → self.now.rounds < fit.iter }
     {
         let o = fit.options;
-        if neldermead_vertices::converged(o, self.v, fit.n) {
+        if neldermead_vertices::converged(o, &self.v, fit.n) {
             if o.restarts <= self.runs {
                 return reason(o.ftol, self.v[0].f);
             }
@@ -259,13 +262,10 @@ impl Simplex {
         ensures { result ≡ headed_of fit self fevals }
     {
         let n = fit.n;
-        let w = neldermead_vertices::sorted(self.v, n);
-        self.v = w;
-        let best = neldermead_vertices::better_of(self.v[0], self.best);
-        self.best = best;
-        let phase = self.verdict(fit, fevals);
-        self.phase = phase;
-        match phase {
+        self.v = neldermead_vertices::sorted(self.v, n);
+        self.best = neldermead_vertices::better_of(self.v[0], self.best);
+        self.phase = self.verdict(fit, fevals);
+        match self.phase {
             BUILDING => {
                 self.at = 0;
                 self.runs += 1;
@@ -273,10 +273,8 @@ impl Simplex {
             }
             REFLECTING => {
                 self.rounds += 1;
-                let cen = neldermead_vertices::centroid(self.v, n);
-                self.cen = cen;
-                let x = self.trial(n, ALPHA);
-                self.x = x;
+                self.cen = neldermead_vertices::centroid(&self.v, n);
+                self.x = self.trial(n, ALPHA);
             }
             _ => {}
         }
@@ -302,14 +300,13 @@ impl Simplex {
         match outcome {
             Outcome::Rests => return self,
             Outcome::Asks(ask) => {
-                let x = self.point(fit, ask);
+                self.x = self.point(fit, ask);
                 self.phase = ask.phase();
                 self.at = ask.vertex(self.at);
-                self.x = x;
                 return self;
             }
             Outcome::Built => {
-                if !neldermead_vertices::any_finite(self.v, n + 1) {
+                if !neldermead_vertices::any_finite(&self.v, n + 1) {
                     self.phase = NOT_FINITE;
                     return self;
                 }

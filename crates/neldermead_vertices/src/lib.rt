@@ -13,17 +13,17 @@ const ZERO_STEP: f64 = 0.00025;
 // Both floors are this many units in the last place.
 const RESOLUTION_ULPS: f64 = 4.0;
 
-const EPSILON: f64 = 2.220446049250313e-16;
-
 // A point with its value.
-#[derive(Clone, Copy)]
+#[derive(Clone, Copy, Default)]
 pub struct Vertex {
     pub x: [f64; 16],
     pub f: f64,
 }
 
 // The first n + 1 vertices in order, from the last on: each is put among those after it, behind those that
-// precede it, so that equal ones stay as they stood. In place: an array passed to a call is copied whole.
+// precede it, so that equal ones stay as they stood: the library's sort that keeps them so asks for an allocator, and this has no heap; its
+// other does not keep them. In place: an array passed to a call is copied whole. The inner loop carries the place where it stops, which no
+// `for` over places says more plainly. The count stands beside an array here and below: a list that knows its length would be on the heap.
 pub fn sorted(v: [Vertex; 17], n: usize) -> [Vertex; 17]
     requires { n ≤ 16 }
     ensures { result ≡ sorted_of v n }
@@ -43,12 +43,13 @@ pub fn sorted(v: [Vertex; 17], n: usize) -> [Vertex; 17]
 
 // The mean of the first n vertices.
 #[tactic(auto, unfolding(crate::specs::Vertices::centroid_of, crate::specs::Vertices::summed_of))]
-pub fn centroid(v: [Vertex; 17], n: usize) -> [f64; 16]
+pub fn centroid(v: &[Vertex; 17], n: usize) -> [f64; 16]
     requires { n ≤ 16 }
-    ensures { result ≡ centroid_of v n }
+    ensures { result ≡ centroid_of v.now n }
 {
     let mut sum = [0.0; 16];
     for i in 0..n {
+        // by `next`: the check does not assign a call's array to a local that is there already
         let next = vector::addition(sum, v[i].x, n);
         sum = next;
     }
@@ -79,9 +80,9 @@ pub fn corner(initial: f64, seed: [f64; 16], i: usize) -> [f64; 16]
 }
 
 // The largest distance of the others of the first n + 1 vertices from the first.
-fn size(v: [Vertex; 17], n: usize) -> f64
+fn size(v: &[Vertex; 17], n: usize) -> f64
     requires { n ≤ 16 }
-    ensures { result ≡ size_of v n n }
+    ensures { result ≡ size_of v.now n n }
 {
     vector::folded(n, 0.0, |m: f64, i| {
         float::max(
@@ -92,9 +93,9 @@ fn size(v: [Vertex; 17], n: usize) -> f64
 }
 
 // Whether one of the first k values is finite.
-pub fn any_finite(v: [Vertex; 17], k: usize) -> bool
+pub fn any_finite(v: &[Vertex; 17], k: usize) -> bool
     requires { k ≤ 17 }
-    ensures { result ≡ any_finite_of v k }
+    ensures { result ≡ any_finite_of v.now k }
 {
     v[..k].iter().any(|u| float::is_finite(u.f))
 }
@@ -104,7 +105,7 @@ pub fn any_finite(v: [Vertex; 17], k: usize) -> bool
 pub fn floor(scale: f64) -> f64
     ensures { result ≡ resolution scale }
 {
-    RESOLUTION_ULPS * EPSILON * scale
+    RESOLUTION_ULPS * f64::EPSILON * scale
 }
 
 // Whether the spread of values is within the tolerance or its floor.
@@ -118,9 +119,9 @@ fn flat(tol: f64, least: f64, most: f64) -> bool
 // Whether size and spread of the first n + 1 vertices, in order, are within tolerances or floors. The spread
 // first: the size takes all coordinates.
 #[tactic(auto, unfolding(crate::specs::Vertices::converged_of))]
-pub fn converged(o: SimplexOptions, v: [Vertex; 17], n: usize) -> bool
+pub fn converged(o: SimplexOptions, v: &[Vertex; 17], n: usize) -> bool
     requires { n ≤ 16 }
-    ensures { result ≡ converged_of o v n }
+    ensures { result ≡ converged_of o v.now n }
 {
     flat(o.ftol, v[0].f, v[n].f)
         && size(v, n) <= float::max(o.xtol, floor(vector::inf_norm(v[0].x, n)))
@@ -137,7 +138,7 @@ pub fn better_of(u: Vertex, b: Vertex) -> Vertex
     b
 }
 
-// The coefficients are made anew from n and the options: a record cannot hold others.
+// Whether the coefficients go by n: where that is asked for, above n 2. They are made anew from both, so that no record holds others.
 fn adaptive(o: SimplexOptions, n: usize) -> bool
     ensures { result ≡ adapts o n }
 {

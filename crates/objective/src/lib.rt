@@ -37,7 +37,7 @@ pub fn difference_step(x: f64, size: f64) -> f64
     float::difference_factor() * float::max(float::abs(x), size)
 }
 
-// x + h and x - h: two functions, as the definitions are two and differ in the operation.
+// x + h and x - h. They differ in the operation alone: one function would take it as a closure, and be longer.
 #[tactic(auto, unfolding(crate::specs::Algorithm::forward_of))]
 pub fn forward(x: f64) -> f64
     ensures { result ≡ forward_of x }
@@ -75,11 +75,11 @@ impl Differences {
         let i = self.at;
         let mut x = self.x;
         let c = x[i];
-        if self.forward {
-            x[i] = backward(c);
-            return x;
-        }
-        x[i] = forward(c);
+        x[i] = if self.forward {
+            backward(c)
+        } else {
+            forward(c)
+        };
         x
     }
 

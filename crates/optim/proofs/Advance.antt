@@ -1,12 +1,14 @@
 -- The record after an answer that is accepted, part by part, and the reply by the refusal that an answer meets. Assumes nothing.
-use Prim.Native.Nat.{ℕ, ◌+◌}
+use Prim.Native.Nat.{ℕ, ◌+◌, ◌<◌}
 use mathlib.Core.Path.{◌≡◌, refl, sym, ap, ◌∙◌}
 use mathlib.Core.Bool.{Bool, true, false, not, cond, true≢false}
 use mathlib.Core.List.{List}
+use mathlib.Core.Logic.{◌⊎◌, inl, inr}
+use native.Mathlib.Omega.{arith}
 use lib.Dec.{eqb}
 use lib.ListN.{length, get_or}
 use lib.Ieee.{Float, nan}
-use borrow.Author.Tests.{eqb-true, eq-eqb, ne_eqb}
+use borrow.Author.Tests.{eqb-true, eqb-false, eq-eqb, ne_eqb}
 use Rattle.vector.specs.Points.{from_slice_of}
 use Rattle.objective.specs.declared.Differences.{Differences}
 use Rattle.objective.specs.Step.{told_of}
@@ -16,10 +18,10 @@ use Rattle.quasinewton_record.specs.declared.Fixed.{Fixed}
 use Rattle.quasinewton.specs.Step.{asks_of, stores_pair_of, updated_of, model_after_of, onward_of}
 use Rattle.quasinewton.proofs.Parts.{settled_parts}
 use Rattle.neldermead.specs.declared.Simplex.{Simplex}
-use Rattle.protocol.specs.Protocol.{Reply, simplex_mark, search_mark}
+use Rattle.protocol.specs.Protocol.{Reply, simplex_mark, bfgs_mark, lbfgs_mark, search_mark}
 use Rattle.optim_record.specs.declared.Counts.{Counts}
 use Rattle.optim_record.specs.declared.Record.{Record}
-use Rattle.optim_record.specs.Record.{gradient_fixed_of, gradient_job_of, valid_of, Ranges, Open, Stands}
+use Rattle.optim_record.specs.Record.{gradient_fixed_of, gradient_job_of, valid_of, Other, Ranges, Open, Stands}
 use Rattle.optim_reply.specs.Standing.{refused_of, over_of, gradient_due_of, standing_of}
 use Rattle.optim_rules.specs.Rules.{repeats_of, suits_of, meets_of, accepts_of}
 use Rattle.optim_rules.specs.Moves.{counted_of, simplex_told_of, search_told_of, descent_told_of, Worded}
@@ -52,11 +54,11 @@ with_parts r d s q m =
       model = m;
     }
 
--- a record with one answer more
-abbrev pub with_counts : Record → Counts → Record
-with_counts r c =
+-- a record with these counts, and the number last accepted
+abbrev pub with_last : Record → ℕ → Counts → Record
+with_last r k c =
     record {
-      accepted = r.accepted + 1;
+      accepted = k;
       job = r.job;
       n = r.n;
       counts = c;
@@ -68,6 +70,10 @@ with_counts r c =
       descent = r.descent;
       model = r.model;
     }
+
+-- a record with one answer more
+abbrev pub with_counts : Record → Counts → Record
+with_counts r c = with_last r (r.accepted + 1) c
 
 -- the model of a gradient fit, and its descent
 abbrev pub model_of : Record → List Float → Model
@@ -102,20 +108,42 @@ module _ (r : Record) (words : List Float) where
   pub simplex_moved : (s : Simplex) → r.job ≡ simplex_mark → s ≡ simplex_told_of r words → with_parts r r.diff s r.descent r.model ≡ moved_of r words
   simplex_moved s e f = rw (eq-eqb _ _ e, f)
 
-  module _ (d : r.job ≡ simplex_mark → ⊥) where
-    pub search_moved : (t : Descent) → r.job ≡ search_mark → t ≡ search_told_of r words → with_parts r r.diff r.simplex t r.model ≡ moved_of r words
-    search_moved t e f = rw (ne_eqb _ _ d, eq-eqb _ _ e, f)
+  pub search_moved : (t : Descent) → r.job ≡ search_mark → t ≡ search_told_of r words → with_parts r r.diff r.simplex t r.model ≡ moved_of r words
+  search_moved t e f = rw (ne_eqb r.job simplex_mark (λ d. omega (arith, d, e)), eq-eqb _ _ e, f)
 
-    module _ (e : r.job ≡ search_mark → ⊥) (b : Bool) (g : b ≡ gradient_job_of r.job) where
-      pub descent_moved : (p : Record) (q : Descent) → b ≡ true → p ≡ with_parts r r.diff r.simplex r.descent (model_of r words) → q ≡ descent_of r words
-          → with_parts p p.diff p.simplex q p.model ≡ moved_of r words
-      descent_moved p q t k f = rw (ne_eqb _ _ d, ne_eqb _ _ e, ← g, t, k, f)
+  module _ (g : gradient_job_of r.job ≡ true) where
+    no_simplex : eqb r.job simplex_mark ≡ false
+    unfolding gradient_job_of
+    no_simplex = ne_eqb _ _ (λ j. true≢false (sym g ∙ ap gradient_job_of j))
 
-      pub asking_moved : (q : Descent) → b ≡ true → q ≡ descent_told_of r words → asks_of q ≡ true → with_parts r r.diff r.simplex q r.model ≡ moved_of r words
-      asking_moved q t f a = rw (ne_eqb _ _ d, ne_eqb _ _ e, ← g, t, ← f, asking_model (gradient_fixed_of r) q a r.model, asking_rests (gradient_fixed_of r) q a r.model (counted_of r).fevals)
+    no_search : eqb r.job search_mark ≡ false
+    unfolding gradient_job_of
+    no_search = ne_eqb _ _ (λ j. true≢false (sym g ∙ ap gradient_job_of j))
 
-      pub differences_moved : (q : Differences) → b ≡ false → q ≡ told_of r.diff (get_or words 0 nan) → with_parts r q r.simplex r.descent r.model ≡ moved_of r words
-      differences_moved q t f = rw (ne_eqb _ _ d, ne_eqb _ _ e, ← g, t, f)
+    pub descent_moved : (p : Record) (q : Descent) → p ≡ with_parts r r.diff r.simplex r.descent (model_of r words) → q ≡ descent_of r words → with_parts p p.diff p.simplex q p.model ≡ moved_of r words
+    descent_moved p q k f = rw (no_simplex, no_search, g, k, f)
+
+    pub asking_moved : (q : Descent) → q ≡ descent_told_of r words → asks_of q ≡ true → with_parts r r.diff r.simplex q r.model ≡ moved_of r words
+    asking_moved q f a = rw (no_simplex, no_search, g, ← f, asking_model (gradient_fixed_of r) q a r.model, asking_rests (gradient_fixed_of r) q a r.model (counted_of r).fevals)
+
+  pub differences_moved : Other r → (q : Differences) → q ≡ told_of r.diff (get_or words 0 nan) → with_parts r q r.simplex r.descent r.model ≡ moved_of r words
+  differences_moved o q f = rw (ne_eqb _ _ o.simplex, ne_eqb _ _ o.search, o.gradient, f)
+
+-- the jobs between simplex and search are gradient fits, and none below or above is
+pub between : (j : ℕ) → simplex_mark < j → j < search_mark → gradient_job_of j ≡ true
+unfolding gradient_job_of
+between j l m = go (eqb j bfgs_mark) refl
+  where
+    go : (b : Bool) → eqb j bfgs_mark ≡ b → cond b true (eqb j lbfgs_mark) ≡ true
+    go true e = refl
+    go false e = let d = eqb-false _ _ e in eq-eqb _ _ (omega arith)
+
+pub beside : (r : Record) → (r.job < simplex_mark) ⊎ (search_mark < r.job) → Other r
+unfolding gradient_job_of
+beside r (inl l) =
+    record { simplex = λ e. omega (arith, l, e); search = λ e. omega (arith, l, e); gradient = rw (ne_eqb r.job bfgs_mark (λ e. omega (arith, l, e))) (ne_eqb r.job lbfgs_mark (λ e. omega (arith, l, e))) }
+beside r (inr l) =
+    record { simplex = λ e. omega (arith, l, e); search = λ e. omega (arith, l, e); gradient = rw (ne_eqb r.job bfgs_mark (λ e. omega (arith, l, e))) (ne_eqb r.job lbfgs_mark (λ e. omega (arith, l, e))) }
 
 -- neither a simplex fit nor differences ask for a gradient
 pub due_simplex : (r : Record) → r.job ≡ simplex_mark → gradient_due_of r ≡ false
@@ -206,6 +234,10 @@ module _ (r : Record) (number kind : ℕ) (words : List Float) where
 
   pub kept_moved : (p : Record) (c : Counts) → accepts_of r number why ≡ true → p ≡ moved_of r words → c ≡ counted_of r → with_counts p c ≡ kept_of
   kept_moved p c e f g = rw (e, f, g) (advance r words)
+
+  -- where the next number is taken before the parts are moved
+  pub kept_counted : (p : Record) (c : Counts) → accepts_of r number why ≡ true → p ≡ moved_of r words → c ≡ counted_of r → with_last p (r.accepted + 1) c ≡ kept_of
+  kept_counted p c e f g = ap (λ (k : ℕ). with_last p (k + 1) c) (sym (ap (λ (q : Record). q.accepted) f ∙ moved_accepted r words)) ∙ kept_moved p c e f g
 
   pub kept_left : accepts_of r number why ≡ false → r ≡ kept_of
   kept_left e = rw e

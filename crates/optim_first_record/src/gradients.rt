@@ -1,4 +1,4 @@
-// The starts of gradient fits, bfgs and, where `limited`, lbfgs.
+// The starts of gradient fits, bfgs and, where `limited`, lbfgs: a bool, as C's `fit_gradient_refusal` has it.
 ghost use Rattle.std.specs.Prelude.{◌≡◌, ◌≤◌};
 ghost use Rattle.protocol.specs.Protocol.{as_result};
 ghost use Rattle.optim_first_record.specs.Starts.{gradient_past_limits_of, ordered_of, no_memory_of, gradient_refusal_of, gradient_limits_of, kept_options_of, gradient_mark_of, gradient_record_of};
@@ -6,7 +6,7 @@ ghost use Rattle.optim_first_record.specs.Starts.{gradient_past_limits_of, order
 use optim_record::{Limits, MOST_EVALS, NO_LIMIT, Record};
 use protocol::{Allowances, BFGS, GradientOptions, LBFGS, Refusal, WolfeOptions};
 
-// Refusal 2 of a gradient fit; bfgs ignores memory.
+// Whether a start of a gradient fit meets refusal 2; bfgs passes its memory over.
 #[tactic(auto, unfolding(crate::specs::Starts::gradient_past_limits_of))]
 fn gradient_past_limits(count: usize, o: GradientOptions, a: Allowances, limited: bool) -> bool
     ensures { result ≡ gradient_past_limits_of count o a limited }
@@ -26,7 +26,7 @@ fn ordered(w: WolfeOptions) -> bool
     0.0 < w.c1 && w.c1 < w.c2 && w.c2 < 1.0
 }
 
-// A memory of none, for lbfgs.
+// Whether it is lbfgs with a memory of none.
 #[tactic(auto, unfolding(crate::specs::Starts::no_memory_of))]
 fn no_memory(o: GradientOptions, limited: bool) -> bool
     ensures { result ≡ no_memory_of o limited }

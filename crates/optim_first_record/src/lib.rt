@@ -30,14 +30,14 @@ pub fn begun_record(x: &[f64]) -> Record
     }
 }
 
-// An allowance above 1,000,000.
+// Whether an allowance is above 1,000,000.
 fn excess(a: Option<u64>) -> bool
     ensures { result ≡ excess a }
 {
     a.is_some_and(|k| MOST_ALLOWED < k)
 }
 
-// Refusal 2.
+// Whether a start of a simplex fit meets refusal 2.
 #[tactic(auto, unfolding(crate::specs::Starts::past_limits_of))]
 fn past_limits(count: usize, o: SimplexOptions, a: Allowances) -> bool
     ensures { result ≡ past_limits_of count o a }
@@ -45,7 +45,7 @@ fn past_limits(count: usize, o: SimplexOptions, a: Allowances) -> bool
     16 < count || excess(a.iter) || excess(a.fevals) || MOST_RESTARTS < o.restarts
 }
 
-// The refusal that a start of so many coordinates meets, before its point is looked at.
+// The refusal that a start of a simplex fit of so many coordinates meets, before its point is looked at.
 #[tactic(auto, unfolding(crate::specs::Starts::simplex_refusal_of, protocol::specs::Protocol::as_result))]
 pub fn simplex_refusal(count: usize, o: SimplexOptions, a: Allowances) -> Result<(), Refusal>
     ensures { result ≡ as_result (simplex_refusal_of count o a) }
@@ -99,7 +99,7 @@ pub fn simplex_record(point: [f64; 16], n: usize, o: SimplexOptions, a: Allowanc
     }
 }
 
-// Refusal 2 of a search.
+// Whether a start of a search meets refusal 2.
 #[tactic(auto, unfolding(crate::specs::Starts::search_past_limits_of))]
 fn search_past_limits(n: usize, dcount: usize, gcount: usize, o: WolfeOptions) -> bool
     ensures { result ≡ search_past_limits_of n dcount gcount o }
@@ -125,7 +125,7 @@ pub fn search_refusal(
 }
 
 // A search along the line, from its first trial on.
-#[tactic(auto, unfolding(crate::specs::Starts::begun_search_of))]
+#[tactic(auto, unfolding(crate::specs::Starts::begun_search_of, quasinewton_record::specs::Descents::idle_of))]
 fn begun_search(line: Line, n: usize, step: f64, o: WolfeOptions, gradients: bool) -> Descent
     ensures { result ≡ begun_search_of line n step o gradients }
 {
@@ -136,13 +136,9 @@ fn begun_search(line: Line, n: usize, step: f64, o: WolfeOptions, gradients: boo
     };
     Descent {
         phase: SEARCHING,
-        number: 0,
-        detail: 0,
-        first: false,
-        rounds: 0,
         line,
         search: linesearch::begun(&linesearch::Setup { fixed, line }, step),
-        diff: objective::Differences::begun([0.0; 16]),
+        ..Descent::idle()
     }
 }
 

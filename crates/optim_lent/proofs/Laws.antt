@@ -12,6 +12,7 @@ use Rattle.std.specs.Bool.{MatchBool}
 use Rattle.std.specs.List.{AllWithin, HoldsAt}
 use Rattle.std.proofs.lemmas.List.{take_all, length-drop}
 use Rattle.std.proofs.lemmas.List.Recursion.{and_from_places, and_fails_at}
+use Rattle.protocol.specs.declared.Refusal.{Refusal}
 use Rattle.protocol.specs.declared.Said.TheVariants.{Refused}
 use Rattle.protocol.specs.Protocol.{Reply, refusal, reply_of}
 use Rattle.optim_record.specs.declared.Record.{Record}
@@ -40,10 +41,13 @@ flags_checked false ms h = sym (and_fails_at flags_only (λ k. leb k 1) refl (λ
 
 module _ (l : Lists) (number kind : ℕ) (words : List Float) where
   -- a flag is an unknown mark
-  pub answer_unknown : (p q : List Float) (b : Bool) → b ≡ flags_only (drop place.flags l.marks) → b ≡ false → Leaves (Refused (refusal 1 0)) l p q p q (answered_of l number kind words)
+  unknown : (p q : List Float) (b : Bool) → b ≡ flags_only (drop place.flags l.marks) → b ≡ false → Leaves (Refused (refusal 1 0)) l p q p q (answered_of l number kind words)
   unfolding formed_of reply_of point_with slopes_with
-  answer_unknown p q true e t = absurd (true≢false t)
-  answer_unknown p q false e t = subst (Leaves (Refused (refusal 1 0)) l p q p q) (sym (unknown_flag l number kind words (sym e))) (record { outcome = refl; point = refl; slopes = refl })
+  unknown p q true e t = absurd (true≢false t)
+  unknown p q false e t = subst (Leaves (Refused (refusal 1 0)) l p q p q) (sym (unknown_flag l number kind words (sym e))) (record { outcome = refl; point = refl; slopes = refl })
+
+  pub answer_unknown : (p q : List Float) (why : Refusal) → why ≡ refusal 1 0 → (b : Bool) → b ≡ flags_only (drop place.flags l.marks) → b ≡ false → Leaves (Refused why) l p q p q (answered_of l number kind words)
+  answer_unknown p q why ew b e t = subst (λ (k : Refusal). Leaves (Refused k) l p q p q (answered_of l number kind words)) (sym ew) (unknown p q b e t)
 
   module _ (a : Answered) (r : Record) (p q : List Float) {p' q' : List Float} (b : Bool) (eb : b ≡ flags_only (drop place.flags l.marks)) (fine : b ≡ true) (er : r ≡ record_of l)
       (ea : outcome_of a ≡ answer_of r number kind words) (es : spoken_in a ≡ spoken_by (answer_of r number kind words))

@@ -1,6 +1,7 @@
 // The engine over a record that is lent as lists: one start for each job, and one call for each answer. The lists are loaded, the
 // engine's call is made, and what it leaves is stored. `point` gets the point of which the reply speaks, `slopes` the gradient that a
-// bare search or bare differences end with; a refusal leaves both as they were.
+// bare search or bare differences end with; a refusal leaves both as they were. The two travel together in eight functions here and in
+// optim_lent_start: C passes them as two pointers, and a struct of them would be made and taken apart in each.
 #![tactic(auto)]
 
 ghost use Rattle.std.specs.Prelude.{◌≡◌, drop};
@@ -20,8 +21,8 @@ fn formed(m: &[u64; 36]) -> bool
     m[25..].iter().all(|k| *k <= 1)
 }
 
-// An answer to the open question: its number, its kind's letter, and its words. A refused or repeated answer leaves every list of the
-// record as it was.
+// An answer to the open question: its number, its kind's letter (a u8, since any byte may come), and its words. A refused or repeated
+// answer leaves every list of the record as it was.
 pub fn answer(
     l: Lent<'_>,
     number: u64,
@@ -34,23 +35,14 @@ pub fn answer(
     ensures said_point { point.new ≡ point_after (answered_of (lists_in l.entry) number kind words.now) point.old }
     ensures said_slopes { slopes.new ≡ slopes_after (answered_of (lists_in l.entry) number kind words.now) slopes.old }
 {
-    let m = *l.m;
-    if !formed(&m) {
-        return Said::Refused(Refusal {
-            number: 1,
-            detail: 0,
-        });
+    if !formed(l.m) {
+        return Said::Refused(Refusal::new(1, 0));
     }
-    let before = m[0];
-    let r = optim_load::load(&l);
-    let a = optim::answer(r, number, kind, words);
-    let said = a.said;
-    let x = a.x;
-    let g = a.g;
-    let next = a.next;
-    optim_lent_start::speak(said, x, g, point, slopes);
-    if next.accepted != before {
-        optim_store::store(l, next);
+    let before = l.m[0];
+    let a = optim::answer(optim_load::load(&l.held()), number, kind, words);
+    optim_lent_start::speak(a.said, a.x, a.g, point, slopes);
+    if a.next.accepted != before {
+        optim_store::store(l, a.next);
     }
-    said
+    a.said
 }

@@ -1,5 +1,6 @@
 // The starts over a record that is lent as lists, one for each job. The lists may hold anything: the engine's start is made, and its
-// record is stored. A refused start leaves the blank record.
+// record is stored. A refused start leaves the blank record. All that the five share is `opened`, which takes what the engine's start
+// returns; each keeps its name and contract for who calls it.
 #![tactic(auto)]
 
 mod reply;
@@ -26,8 +27,7 @@ pub fn simplex(
     ensures said_point { point.new ≡ point_after (started_of (simplex_of x.now o a)) point.old }
     ensures said_slopes { slopes.new ≡ slopes_after (started_of (simplex_of x.now o a)) slopes.old }
 {
-    let begun = optim::simplex(x, o, a);
-    reply::opened(l, begun, point, slopes)
+    reply::opened(l, optim::simplex(x, o, a), point, slopes)
 }
 
 // Starts a fit by bfgs at x; its memory is passed over. It is refused with 2, 4, 5, 9 or 12, looked for in that order.
@@ -43,8 +43,7 @@ pub fn bfgs(
     ensures said_point { point.new ≡ point_after (started_of (bfgs_of x.now o a)) point.old }
     ensures said_slopes { slopes.new ≡ slopes_after (started_of (bfgs_of x.now o a)) slopes.old }
 {
-    let begun = optim::bfgs(x, o, a);
-    reply::opened(l, begun, point, slopes)
+    reply::opened(l, optim::bfgs(x, o, a), point, slopes)
 }
 
 // Starts a fit by lbfgs at x. It is refused with 2, 3, 4, 5, 9 or 12, looked for in that order.
@@ -60,8 +59,7 @@ pub fn lbfgs(
     ensures said_point { point.new ≡ point_after (started_of (lbfgs_of x.now o a)) point.old }
     ensures said_slopes { slopes.new ≡ slopes_after (started_of (lbfgs_of x.now o a)) slopes.old }
 {
-    let begun = optim::lbfgs(x, o, a);
-    reply::opened(l, begun, point, slopes)
+    reply::opened(l, optim::lbfgs(x, o, a), point, slopes)
 }
 
 // Starts a search from x along d, where the value is f0 and the gradient g, with the first step `step`. It is refused with 2, 5, 6, 7,
@@ -82,8 +80,12 @@ pub fn search(
     ensures said_point { point.new ≡ point_after (started_of (search_of x.now d.now f0 g.now step o gradients)) point.old }
     ensures said_slopes { slopes.new ≡ slopes_after (started_of (search_of x.now d.now f0 g.now step o gradients)) slopes.old }
 {
-    let begun = optim::search(x, d, f0, g, step, o, gradients);
-    reply::opened(l, begun, point, slopes)
+    reply::opened(
+        l,
+        optim::search(x, d, f0, g, step, o, gradients),
+        point,
+        slopes,
+    )
 }
 
 // Starts central differences at x. A list of more than sixteen is refused with 2; of none it ends at once with an empty gradient.
@@ -92,6 +94,5 @@ pub fn differences(l: Lent<'_>, x: &[f64], point: &mut [f64; 16], slopes: &mut [
     ensures said_point { point.new ≡ point_after (started_of (differences_of x.now)) point.old }
     ensures said_slopes { slopes.new ≡ slopes_after (started_of (differences_of x.now)) slopes.old }
 {
-    let begun = optim::differences(x);
-    reply::opened(l, begun, point, slopes)
+    reply::opened(l, optim::differences(x), point, slopes)
 }

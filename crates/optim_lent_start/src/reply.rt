@@ -17,17 +17,10 @@ pub fn speak(said: Said, x: [f64; 16], g: [f64; 16], point: &mut [f64; 16], slop
     ensures said_slopes { slopes.new ≡ slopes_with (reply_of said 0 x g) g slopes.old }
 {
     match said {
-        Said::Ask(_, _) => {
+        Said::Ask(_, _) | Said::Fitted(_) => {
             *point = x;
         }
-        Said::Fitted(_) => {
-            *point = x;
-        }
-        Said::Searched(_) => {
-            *point = x;
-            *slopes = g;
-        }
-        Said::Differenced => {
+        Said::Searched(_) | Said::Differenced => {
             *point = x;
             *slopes = g;
         }
@@ -42,11 +35,7 @@ pub fn opened(l: Lent<'_>, a: Answered, point: &mut [f64; 16], slopes: &mut [f64
     ensures said_point { point.new ≡ point_after (started_of (outcome_of a)) point.old }
     ensures said_slopes { slopes.new ≡ slopes_after (started_of (outcome_of a)) slopes.old }
 {
-    let said = a.said;
-    let x = a.x;
-    let g = a.g;
-    let next = a.next;
-    speak(said, x, g, point, slopes);
-    optim_store::store(l, next);
-    said
+    speak(a.said, a.x, a.g, point, slopes);
+    optim_store::store(l, a.next);
+    a.said
 }

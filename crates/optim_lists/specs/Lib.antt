@@ -1,5 +1,6 @@
 pub mod Layout
 pub mod Lists
+pub mod Parts
 pub mod Lent
 pub mod Answered
 pub mod Laws

@@ -5,40 +5,33 @@ mod parts;
 
 ghost use Rattle.std.specs.Prelude.{◌≡◌};
 ghost use Rattle.optim_lists.specs.Lists.{record_of};
-ghost use Rattle.optim_lists.specs.Lent.{lists_in};
+ghost use Rattle.optim_lists.specs.Lent.{lists_held};
 
-use optim_lists::Lent;
+use optim_lists::Held;
 use optim_record::{Counts, Limits, Record};
 
-// The record that the lists are.
+// The record that the lists are. It is no `From`: neither type is this crate's. A flag is read as whether it is not 0; one above 1 is refused by who answers (optim_lent's `formed`).
 #[tactic(auto, unfolding(optim_lists::specs::Lists::record_of))]
-pub fn load(l: &Lent<'_>) -> Record
-    ensures { result ≡ record_of (lists_in l.now) }
+pub fn load(l: &Held<'_>) -> Record
+    ensures { result ≡ record_of (lists_held l.now) }
 {
-    let m = &*l.m;
-    let options = parts::options(l);
-    let gradient = parts::gradient_options(l);
-    let diff = parts::differences(l);
-    let simplex = parts::simplex(l);
-    let descent = parts::descent(l);
-    let model = parts::model(l);
     Record {
-        accepted: m[0],
-        job: m[1],
-        n: m[2] as usize,
+        accepted: l.m[0],
+        job: l.m[1],
+        n: l.m[2] as usize,
         counts: Counts {
-            fevals: m[3],
-            gevals: m[4],
+            fevals: l.m[3],
+            gevals: l.m[4],
         },
         limits: Limits {
-            iter: m[5],
-            fevals: m[6],
+            iter: l.m[5],
+            fevals: l.m[6],
         },
-        options,
-        gradient,
-        diff,
-        simplex,
-        descent,
-        model,
+        options: parts::options(l),
+        gradient: parts::gradient_options(l),
+        diff: parts::differences(l),
+        simplex: parts::simplex(l),
+        descent: parts::descent(l),
+        model: parts::model(l),
     }
 }

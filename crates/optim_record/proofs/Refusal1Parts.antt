@@ -9,8 +9,7 @@ use lib.Dec.{eqb, ltb, leb}
 use borrow.Author.Tests.{ltb-false, leb-true, eqb-true, eqb-false, not-true, not-false, le-ltb, le-leb, eq-eqb, ne_eqb}
 use Rattle.quasinewton_record.specs.declared.Descent.{Descent}
 use Rattle.optim_record.specs.declared.Record.{Record}
-use Rattle.optim_record.specs.Record.{no_limit, gradient_job_of, valid_simplex_of, valid_search_part_of, valid_search_of, known_refusal_of, valid_ending_of, valid_options_of, valid_model_of, valid_descent_of, valid_part_of, valid_of}
-use Rattle.protocol.specs.Protocol.{simplex_mark, search_mark, differences_mark}
+use Rattle.optim_record.specs.Record.{no_limit, valid_simplex_of, valid_search_part_of, valid_search_of, known_refusal_of, valid_ending_of, valid_options_of, valid_model_of, valid_descent_of, valid_part_of, valid_of}
 use Rattle.optim_record.specs.Refusal1.{OneOf, EndingMark}
 
 -- ---- tests, each with what it means

@@ -4,29 +4,17 @@ ghost use Rattle.optim_record.specs.Record.{idle_of, no_options, no_gradient_opt
 
 use crate::{Counts, Limits, Record};
 use neldermead::Simplex;
-use neldermead_vertices::Vertex;
 use protocol::{GradientOptions, SimplexOptions, WolfeOptions};
 
-// The simplex part of a record that does not use it: written out, since no derive says that an array is of zeros.
+// The simplex part of a record that does not use it.
 #[tactic(auto, unfolding(crate::specs::Record::idle_of))]
 pub fn idle() -> Simplex
     ensures { result ≡ idle_of }
 {
-    let x = [0.0; 16];
-    let none = Vertex { x, f: 0.0 };
-    Simplex {
-        phase: 0,
-        at: 0,
-        rounds: 0,
-        runs: 0,
-        x,
-        best: none,
-        cen: x,
-        refl: none,
-        v: [none; 17],
-    }
+    Simplex::default()
 }
 
+// The simplex options in a record of another job.
 pub fn no_options() -> SimplexOptions
     ensures { result ≡ no_options }
 {
@@ -45,6 +33,7 @@ pub fn wolfe_options(wolfe: WolfeOptions, gradients: bool) -> GradientOptions
     }
 }
 
+// The gradient options in a record of a job that has none.
 #[tactic(auto, unfolding(crate::specs::Record::wolfe_options_of))]
 pub fn no_gradient_options() -> GradientOptions
     ensures { result ≡ no_gradient_options }

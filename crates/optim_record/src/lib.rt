@@ -25,24 +25,24 @@ pub const MOST_RESTARTS: u64 = 100;
 
 pub const MOST_EVALS: u64 = 1_000;
 
-pub const NO_LIMIT: u64 = 18_446_744_073_709_551_615;
+pub const NO_LIMIT: u64 = u64::MAX;
 
 // Accepted V answers, and accepted G answers.
-#[derive(Clone, Copy, Default)]
+#[derive(Clone, Copy, Default, PartialEq, Eq)]
 pub struct Counts {
     pub fevals: u64,
     pub gevals: u64,
 }
 
 // max_iter and max_fevals of a fit, an absent one as its default.
-#[derive(Clone, Copy, Default)]
+#[derive(Clone, Copy, Default, PartialEq, Eq)]
 pub struct Limits {
     pub iter: u64,
     pub fevals: u64,
 }
 
 // All that the engine keeps between two calls. `accepted` is the number last accepted, 0 before the
-// first; the open question's is one more. A part that its job does not use is zero. Marks, phases and flags
+// first; the open question's is one more. A part that its job does not use is as in `blank`. Marks, phases and flags
 // are plain: C hands back any number in them, which is taken and met with refusal 1.
 #[derive(Clone, Copy)]
 pub struct Record {
@@ -59,7 +59,8 @@ pub struct Record {
     pub model: Model,
 }
 
-// A reply, with the point and the gradient that it speaks of, and the record for the next call.
+// A reply, with the point and the gradient that it speaks of, and the record for the next call. That what is said is what stands in the
+// record (`spoken_in` is `spoken_by`) is in each start's contract, and no invariant of this struct: anyone may build one.
 #[derive(Clone, Copy)]
 pub struct Answered {
     pub said: Said,
@@ -68,7 +69,7 @@ pub struct Answered {
     pub next: Record,
 }
 
-// Whether a job is bfgs or lbfgs.
+// Whether a job is bfgs or lbfgs, for who holds a record: the sources here match on the marks.
 #[tactic(auto, unfolding(crate::specs::Record::gradient_job_of))]
 pub fn gradient_job(job: u64) -> bool
     ensures { result ≡ gradient_job_of job }

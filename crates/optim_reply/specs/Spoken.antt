@@ -1,9 +1,10 @@
 -- What is said, as the code says it: of parts of a record, with points of sixteen coordinates. proofs/Says.antt holds it against
 -- Standing.antt. Definitions only.
-use Rattle.std.specs.Prelude.{ℕ, ◌+◌, cond, List, eqb, ltb, leb, replicate, Float}
+use Rattle.std.specs.Prelude.{ℕ, ◌+◌, Bool, cond, List, eqb, ltb, leb, replicate, Float}
 use Rattle.float.specs.Binary64.{plus_zero}
 use Rattle.protocol.specs.declared.Kind.{Kind}
 use Rattle.protocol.specs.declared.Kind.TheVariants.{Value, Gradient}
+use Rattle.protocol.specs.declared.Termination.{Termination}
 use Rattle.protocol.specs.declared.Said.TheVariants.{Ask, Fitted, Searched, Differenced, Refused}
 use Rattle.protocol.specs.Protocol.{Reply, ask, ended, refused, refusal, reply_of, simplex_mark, search_mark}
 use Rattle.objective.specs.declared.Differences.{Differences}
@@ -40,14 +41,18 @@ refusal_of number detail = record { said = Refused (refusal number detail); x = 
 abbrev pub asked_of : ℕ → Kind → List Float → Spoken
 asked_of accepted k x = record { said = Ask (accepted + 1) k; x = x; g = none }
 
--- a simplex fit
-abbrev pub ended_of : Counts → ℕ → ℕ → Vertex → Spoken
-ended_of c phase rounds best =
+-- the result of a fit, by its reason, with its best point
+abbrev pub fitted_of : Termination → Bool → ℕ → Counts → Vertex → Spoken
+fitted_of reason converged rounds c best =
     record {
-      said = Fitted (record { reason = termination_of phase; converged = eqb phase by_tolerance; iterations = rounds; fevals = c.fevals; gevals = c.gevals; f = best.f });
+      said = Fitted (record { reason = reason; converged = converged; iterations = rounds; fevals = c.fevals; gevals = c.gevals; f = best.f });
       x = best.x;
       g = none;
     }
+
+-- a simplex fit
+abbrev pub ended_of : Counts → ℕ → ℕ → Vertex → Spoken
+ended_of c phase rounds best = fitted_of (termination_of phase) (eqb phase by_tolerance) rounds c best
 
 unfoldable pub simplex_spoken_of : ℕ → Counts → ℕ → ℕ → List Float → Vertex → Spoken
 simplex_spoken_of accepted c phase rounds x best =
@@ -70,12 +75,7 @@ search_spoken_of accepted fixed l s =
 
 -- a gradient fit
 abbrev pub descent_ended_of : Counts → ℕ → ℕ → Line → Spoken
-descent_ended_of c phase rounds l =
-    record {
-      said = Fitted (record { reason = descent_termination_of phase; converged = descent_converged_of phase; iterations = rounds; fevals = c.fevals; gevals = c.gevals; f = l.f });
-      x = l.x;
-      g = none;
-    }
+descent_ended_of c phase rounds l = fitted_of (descent_termination_of phase) (descent_converged_of phase) rounds c (record { x = l.x; f = l.f })
 
 unfoldable pub descent_spoken_of : ℕ → Counts → quasinewton_fixed.Fixed → Descent → Spoken
 descent_spoken_of accepted c fixed d =

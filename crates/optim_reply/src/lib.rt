@@ -1,11 +1,11 @@
-// What stands in a record: its open question, or its outcome. All of it is a function of the record, and no method, which only
+// What stands in a record: its open question, or its outcome. These are functions, and no methods of the record: those only
 // optim_record could declare.
 #![tactic(auto)]
 
 ghost use Rattle.std.specs.Prelude.{◌≡◌, ◌≤◌};
 ghost use Rattle.optim_record.specs.Record.{outcome_of, fixed_of, search_fixed_of, gradient_fixed_of, Stands};
 ghost use Rattle.optim_reply.specs.Standing.{over_of, gradient_due_of, termination_of, descent_termination_of, descent_converged_of};
-ghost use Rattle.optim_reply.specs.Spoken.{reply_with, refusal_of, asked_of, ended_of, simplex_spoken_of, found_of, search_spoken_of, descent_ended_of, descent_spoken_of, differences_spoken_of, spoken_of, spoken_in};
+ghost use Rattle.optim_reply.specs.Spoken.{reply_with, refusal_of, asked_of, fitted_of, simplex_spoken_of, found_of, search_spoken_of, descent_spoken_of, differences_spoken_of, spoken_of, spoken_in};
 
 use linesearch::{Line, Search};
 use linesearch_moves::{ASKS_DIFFERENCE, ASKS_GRADIENT, FOUND};
@@ -29,7 +29,7 @@ pub struct Spoken {
     pub g: [f64; 16],
 }
 
-// A refusal.
+// A refusal, which speaks of no point.
 pub fn refused(why: Refusal) -> Spoken
     ensures { result ≡ refusal_of why.number why.detail }
 {
@@ -75,7 +75,8 @@ pub fn gradient_fixed(r: Record) -> quasinewton::Fixed
     }
 }
 
-// Whether the job has ended: a question is open in the phases up to SHRINKING and, of a search, ASKS_DIFFERENCE.
+// Whether the job has ended: a question is open in the phases up to SHRINKING and, of a search, ASKS_DIFFERENCE. This and the next are two
+// tests, and no one Option<Kind>: each is asked by itself, and has its own definition.
 #[tactic(auto, unfolding(crate::specs::Standing::over_of, optim_record::specs::Record::gradient_job_of))]
 pub fn over(r: Record) -> bool
     ensures { result ≡ over_of r }
@@ -100,7 +101,8 @@ pub fn gradient_due(r: Record) -> bool
     }
 }
 
-// The reason that a phase stands for: MaxFevals has the mark that is left.
+// The reason that a simplex fit's phase stands for: MaxFevals has the phase that is left. It and `descent_termination` are no one
+// function of a phase: the numbers overlap, as 7 is BY_TOLERANCE here and BY_STEP there.
 #[tactic(auto, unfolding(crate::specs::Standing::termination_of))]
 fn termination(phase: u64) -> Termination
     ensures { result ≡ termination_of phase }
@@ -113,7 +115,8 @@ fn termination(phase: u64) -> Termination
     }
 }
 
-// The question of a kind at x, after `accepted` answers.
+// The question of a kind at x, after `accepted` answers. The bound on that count stands in each function that leads here, and in no struct,
+// which would be no plainer: `standing` reads the count off a plain Record, which holds any number, and three of them are public.
 pub fn asks(accepted: u64, kind: Kind, x: [f64; 16]) -> Spoken
     requires { accepted ≤ 40000000001 }
     ensures { result ≡ asked_of accepted kind x }
@@ -125,22 +128,21 @@ pub fn asks(accepted: u64, kind: Kind, x: [f64; 16]) -> Spoken
     }
 }
 
-// The result of a simplex fit.
-fn ends(counts: Counts, phase: u64, rounds: u64, best: Vertex) -> Spoken
-    ensures { result ≡ ended_of counts phase rounds best }
+// The result of a fit: why it stopped, whether it converged, its rounds, its counts, and the best point with its value.
+fn ends(reason: Termination, converged: bool, rounds: u64, counts: Counts, best: &Vertex) -> Spoken
+    ensures { result ≡ fitted_of reason converged rounds counts best.now }
 {
     let summary = Summary {
-        reason: termination(phase),
-        converged: phase == BY_TOLERANCE,
+        reason,
+        converged,
         iterations: rounds,
         fevals: counts.fevals,
         gevals: counts.gevals,
         f: best.f,
     };
-    let x = best.x;
     Spoken {
         said: Said::Fitted(summary),
-        x,
+        x: best.x,
         g: [0.0; 16],
     }
 }
@@ -158,32 +160,33 @@ fn standing_simplex(
     requires { accepted ≤ 40000000001 }
     ensures { result ≡ simplex_spoken_of accepted counts phase rounds x best }
 {
-    if phase <= SHRINKING {
-        return asks(accepted, Kind::Value, x);
+    match phase {
+        0..=SHRINKING => asks(accepted, Kind::Value, x),
+        NOT_FINITE => refused(Refusal::new(20, 0)),
+        _ => ends(
+            termination(phase),
+            phase == BY_TOLERANCE,
+            rounds,
+            counts,
+            &best,
+        ),
     }
-    if phase == NOT_FINITE {
-        return refused(Refusal::new(20, 0));
-    }
-    ends(counts, phase, rounds, best)
 }
 
 // The outcome of a search.
-fn found(s: Search) -> Spoken
-    ensures { result ≡ found_of s }
+fn found(s: &Search) -> Spoken
+    ensures { result ≡ found_of s.now }
 {
-    let best = s.best;
     let outcome = Found {
         success: s.phase == FOUND,
-        step: best.trial.step,
-        f: best.trial.value,
+        step: s.best.trial.step,
+        f: s.best.trial.value,
         trials: s.trials,
     };
-    let x = best.x;
-    let g = best.g;
     Spoken {
         said: Said::Searched(outcome),
-        x,
-        g,
+        x: s.best.x,
+        g: s.best.g,
     }
 }
 
@@ -194,17 +197,19 @@ pub fn standing_search(accepted: u64, fixed: linesearch::Fixed, line: Line, s: S
     requires n_bound { fixed.n ≤ 16 }
     ensures { result ≡ search_spoken_of accepted fixed line s }
 {
-    if ASKS_DIFFERENCE < s.phase {
-        return found(s);
-    }
-    let x = linesearch::probe(&linesearch::Setup { fixed, line }, s);
-    if s.phase == ASKS_GRADIENT {
-        return asks(accepted, Kind::Gradient, x);
-    }
-    asks(accepted, Kind::Value, x)
+    let kind = match s.phase {
+        ASKS_GRADIENT => Kind::Gradient,
+        0..=ASKS_DIFFERENCE => Kind::Value,
+        _ => return found(&s),
+    };
+    asks(
+        accepted,
+        kind,
+        linesearch::probe(&linesearch::Setup { fixed, line }, s),
+    )
 }
 
-// The reason that a gradient fit's phase stands for: GradientFailed has the mark that is left.
+// The reason that a gradient fit's phase stands for: GradientFailed has the phase that is left.
 #[tactic(auto, unfolding(crate::specs::Standing::descent_termination_of))]
 fn descent_termination(phase: u64) -> Termination
     ensures { result ≡ descent_termination_of phase }
@@ -220,51 +225,44 @@ fn descent_termination(phase: u64) -> Termination
     }
 }
 
+// Whether a gradient fit's phase is one of convergence: BY_GRADIENT, BY_FUNCTION or BY_STEP.
 #[tactic(auto, unfolding(crate::specs::Standing::descent_converged_of))]
 fn descent_converged(phase: u64) -> bool
     ensures { result ≡ descent_converged_of phase }
 {
-    BY_GRADIENT <= phase && phase <= BY_STEP
-}
-
-// The result of a gradient fit.
-fn descent_ends(counts: Counts, phase: u64, rounds: u64, line: Line) -> Spoken
-    ensures { result ≡ descent_ended_of counts phase rounds line }
-{
-    let summary = Summary {
-        reason: descent_termination(phase),
-        converged: descent_converged(phase),
-        iterations: rounds,
-        fevals: counts.fevals,
-        gevals: counts.gevals,
-        f: line.f,
-    };
-    let x = line.x;
-    Spoken {
-        said: Said::Fitted(summary),
-        x,
-        g: [0.0; 16],
-    }
+    matches!(phase, BY_GRADIENT..=BY_STEP)
 }
 
 // What stands in a gradient fit.
 #[tactic(auto, unfolding(crate::specs::Spoken::descent_spoken_of))]
-fn standing_descent(accepted: u64, counts: Counts, fixed: quasinewton::Fixed, d: Descent) -> Spoken
+fn standing_descent(accepted: u64, counts: Counts, fixed: quasinewton::Fixed, d: &Descent) -> Spoken
     requires accepted_bound { accepted ≤ 40000000001 }
     requires n_bound { fixed.n ≤ 16 }
-    ensures { result ≡ descent_spoken_of accepted counts fixed d }
+    ensures { result ≡ descent_spoken_of accepted counts fixed d.now }
 {
     if d.asks() {
-        let x = quasinewton::probe(fixed, d);
-        if d.gradient_due() {
-            return asks(accepted, Kind::Gradient, x);
+        let kind = if d.gradient_due() {
+            Kind::Gradient
+        } else {
+            Kind::Value
+        };
+        return asks(accepted, kind, quasinewton::probe(fixed, *d));
+    }
+    match d.phase {
+        BY_REFUSAL => refused(Refusal::new(d.number, d.detail)),
+        phase => {
+            ends(
+                descent_termination(phase),
+                descent_converged(phase),
+                d.rounds,
+                counts,
+                &Vertex {
+                    x: d.line.x,
+                    f: d.line.f,
+                },
+            )
         }
-        return asks(accepted, Kind::Value, x);
     }
-    if d.phase == BY_REFUSAL {
-        return refused(Refusal::new(d.number, d.detail));
-    }
-    descent_ends(counts, d.phase, d.rounds, d.line)
 }
 
 // What stands in differences.
@@ -276,12 +274,10 @@ pub fn standing_differences(accepted: u64, n: usize, diff: Differences) -> Spoke
     ensures { result ≡ differences_spoken_of accepted n diff }
 {
     if diff.at == n {
-        let x = diff.x;
-        let g = diff.g;
         return Spoken {
             said: Said::Differenced,
-            x,
-            g,
+            x: diff.x,
+            g: diff.g,
         };
     }
     asks(accepted, Kind::Value, diff.probe())
@@ -308,12 +304,12 @@ pub fn standing(r: Record) -> Spoken
             r.descent.line,
             r.descent.search,
         ),
-        BFGS | LBFGS => standing_descent(r.accepted, r.counts, gradient_fixed(r), r.descent),
+        BFGS | LBFGS => standing_descent(r.accepted, r.counts, gradient_fixed(r), &r.descent),
         _ => standing_differences(r.accepted, r.n, r.diff),
     }
 }
 
-// What is said, beside its record.
+// What is said, beside its record. By locals: with `x: s.x` and `g: s.g` in the literal the check does not take this function.
 #[tactic(auto, unfolding(crate::specs::Spoken::reply_with, optim_record::specs::Record::outcome_of))]
 pub fn answered(s: Spoken, r: Record) -> Answered
     ensures { (outcome_of result ≡ reply_with s r) × (spoken_in result ≡ s) }

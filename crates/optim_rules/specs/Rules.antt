@@ -30,6 +30,11 @@ meets_of r number kind count =
 unfoldable pub accepts_of : Record → ℕ → ℕ → Bool
 accepts_of r number why = cond (not (eqb why 0)) false (not (repeats_of r.accepted number))
 
+-- the number of the refusal that was met, 0 for none
+unfoldable pub met_of : OkOrErr (Unit {0}) Refusal → ℕ
+met_of (Ok u) = 0
+met_of (Err w) = w.number
+
 -- both: whether an answer is accepted, or the refusal that it meets
 unfoldable pub accepted_of : Record → ℕ → ℕ → ℕ → OkOrErr Bool Refusal
 unfolding meets_of accepts_of

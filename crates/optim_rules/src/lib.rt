@@ -1,16 +1,16 @@
-// What an answer meets, and what an accepted one moves: the refusals and the repeat rule, the counts, and each job's part. They are
-// functions of the record, and no methods, which only optim_record could declare.
+// What an answer meets, and what an accepted one moves: the refusals and the repeat rule, the counts, and each job's part. These are
+// functions, and no methods of the record: those only optim_record could declare.
 #![tactic(auto)]
 
 ghost use Rattle.std.specs.Prelude.{◌≡◌, ◌≤◌, ◌<◌, length};
 ghost use Rattle.optim_record.specs.Record.{Ranges};
-ghost use Rattle.protocol.specs.Protocol.{simplex_mark};
-ghost use Rattle.optim_rules.specs.Rules.{repeats_of, suits_of, accepted_of};
+ghost use Rattle.protocol.specs.Protocol.{refusal, as_result, simplex_mark};
+ghost use Rattle.optim_rules.specs.Rules.{repeats_of, suits_of, meets_of, met_of, accepts_of, accepted_of};
 ghost use Rattle.optim_rules.specs.Moves.{Worded, counted_of, simplex_told_of, search_told_of, descent_told_of};
 
 use neldermead::Simplex;
 use optim_record::{Counts, Record};
-use protocol::{GRADIENT, Refusal, VALUE};
+use protocol::{Kind, Refusal};
 use quasinewton::Descent;
 
 // Whether a number is that of the last accepted answer; before the first none is.
@@ -27,22 +27,24 @@ fn suits(r: Record, kind: u8, count: usize) -> bool
     ensures { result ≡ suits_of r kind count }
 {
     if optim_reply::gradient_due(r) {
-        kind == GRADIENT && count == r.n
+        kind == u8::from(Kind::Gradient) && count == r.n
     } else {
-        kind == VALUE && count == 1
+        kind == u8::from(Kind::Value) && count == 1
     }
 }
 
-// Whether an answer is accepted, which a repeat is not, or the refusal that it meets: 1, then the repeat rule, then 15 to 17.
-#[tactic(auto, unfolding(crate::specs::Rules::accepted_of, crate::specs::Rules::meets_of, crate::specs::Rules::accepts_of))]
-pub fn accepts(r: Record, number: u64, kind: u8, count: usize) -> Result<bool, Refusal>
-    ensures { result ≡ accepted_of r number kind count }
+// The refusal that an answer meets: 1, then the repeat rule, then 15 to 17. A repeat meets none. The kind is a letter and no `Kind`: who
+// answers may tell any byte, and one that is neither V nor G is met with refusal 17. Number, kind and the count of words
+// come one by one, as C tells them.
+#[tactic(auto, unfolding(crate::specs::Rules::meets_of, protocol::specs::Protocol::as_result))]
+pub fn meets(r: Record, number: u64, kind: u8, count: usize) -> Result<(), Refusal>
+    ensures { result ≡ as_result (refusal (meets_of r number kind count) 0) }
 {
     if !optim_record::valid(r) {
         return Err(Refusal::new(1, 0));
     }
     if repeats(r.accepted, number) {
-        return Ok(false);
+        return Ok(());
     }
     if optim_reply::over(r) {
         return Err(Refusal::new(15, 0));
@@ -53,7 +55,28 @@ pub fn accepts(r: Record, number: u64, kind: u8, count: usize) -> Result<bool, R
     if !suits(r, kind, count) {
         return Err(Refusal::new(17, 0));
     }
-    Ok(true)
+    Ok(())
+}
+
+// Whether an answer that met this refusal, or none, is accepted: it met none, and is no repeat. No refusal of 01 has the number 0; one that
+// a caller makes with it counts as none.
+#[tactic(auto, unfolding(crate::specs::Rules::accepts_of, crate::specs::Rules::met_of))]
+pub fn accepts(r: Record, number: u64, met: Result<(), Refusal>) -> bool
+    ensures { result ≡ accepts_of r number (met_of met) }
+{
+    match met {
+        Err(why) if why.number != 0 => false,
+        _ => !repeats(r.accepted, number),
+    }
+}
+
+// Both: whether an answer is accepted, or the refusal that it meets. The kind is a letter for the same reason.
+#[tactic(auto, unfolding(crate::specs::Rules::accepted_of, crate::specs::Rules::met_of))]
+pub fn accepted(r: Record, number: u64, kind: u8, count: usize) -> Result<bool, Refusal>
+    ensures { result ≡ accepted_of r number kind count }
+{
+    meets(r, number, kind, count)?;
+    Ok(accepts(r, number, Ok(())))
 }
 
 // The counts with one answer more.
@@ -103,13 +126,11 @@ pub fn search_told(r: Record, words: &[f64]) -> Descent
     let setup = linesearch::Setup { fixed, line };
     if optim_reply::gradient_due(r) {
         let g = vector::from_slice(words, r.n);
-        let next = linesearch::told_gradient(&setup, search, g);
-        d.search = next;
+        d.search = linesearch::told_gradient(&setup, search, g);
         return d;
     }
     let v = words[0];
-    let next = linesearch::told(&setup, search, objective::read(v), v);
-    d.search = next;
+    d.search = linesearch::told(&setup, search, objective::read(v), v);
     d
 }
 

@@ -104,7 +104,8 @@ pub fn search(
     started(first_search(x, d, f0, g, step, o, gradients))
 }
 
-// A gradient fit at x, lbfgs where `limited`.
+// A gradient fit at x, lbfgs where `limited`, a bool as in C's `fit_gradient_refusal`. This and `first_simplex` read the point and look
+// for 12 alike: one function of those four lines would, with a contract and a proof of its own, be no shorter.
 fn first_gradient(
     x: &[f64],
     o: GradientOptions,

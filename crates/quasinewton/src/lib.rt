@@ -1,7 +1,8 @@
 // The gradient fits bfgs and lbfgs of quasinewton.rs, one answer at a time. An answer gives the record with
 // the next question in it, or at rest: at the head of a round, or with its search ended. From there
 // `settled` goes on, with the model, to the next question or the end. The moves are functions, and no methods:
-// the crate that declares the record cannot see what they stand on.
+// the crate that declares the record cannot see what they stand on. `fixed` and the record are two arguments:
+// `quasinewton_record` says why.
 #![tactic(auto)]
 
 ghost use Rattle.std.specs.Prelude.{◌≡◌, ◌≤◌};
@@ -64,8 +65,8 @@ pub fn settled(fixed: Fixed, q: Descent, m: Model, fevals: u64) -> Descent
     ensures { result ≡ onward_of fixed q m fevals }
 {
     let next = arrived(fixed, q);
-    if next.phase == AT_HEAD {
-        return quasinewton_round::headed(fixed, next, m, fevals);
+    match next.phase {
+        AT_HEAD => quasinewton_round::headed(fixed, next, m, fevals),
+        _ => next,
     }
-    next
 }

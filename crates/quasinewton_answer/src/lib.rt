@@ -1,7 +1,9 @@
 // The open question of a gradient fit and its answer. A move takes what is told for the question, and gives
 // the record with the next question in it, or at rest: at the head of a round, or with its search ended. The moves
-// are functions, and no methods: the crate that declares the record cannot see what they stand on. They tell phases
-// apart by `if` and `return`, as `linesearch` says.
+// are functions, and no methods: the crate that declares the record cannot see what they stand on. `fixed` and the record
+// are two arguments: `quasinewton_record` says why. `told` and
+// `told_gradient` tell phases apart by `if` and `return`: a `match` in their place costs fits by bfgs and lbfgs of 2 and of 8
+// coordinates 14% to 16% more instructions.
 #![tactic(auto)]
 
 ghost use Rattle.std.specs.Prelude.{◌≡◌, ◌≤◌};
@@ -18,20 +20,18 @@ pub fn probe(fixed: Fixed, q: Descent) -> [f64; 16]
     requires { fixed.n ≤ 16 }
     ensures { result ≡ probe_of fixed q }
 {
-    if q.phase == SEARCHING {
-        let setup = Setup {
-            fixed: fixed.search_fixed(),
-            line: q.line,
-        };
-        return linesearch::probe(&setup, q.search);
+    match q.phase {
+        SEARCHING => {
+            let setup = Setup {
+                fixed: fixed.search_fixed(),
+                line: q.line,
+            };
+            linesearch::probe(&setup, q.search)
+        }
+        FIRST_DIFFERENCES if q.diff.at < fixed.n => q.diff.probe(),
+        FIRST_DIFFERENCES => q.diff.x,
+        _ => q.line.x,
     }
-    if q.phase != FIRST_DIFFERENCES {
-        return q.line.x;
-    }
-    if q.diff.at < fixed.n {
-        return q.diff.probe();
-    }
-    q.diff.x
 }
 
 // A value as it is read. A record that asks for none stays as it is.

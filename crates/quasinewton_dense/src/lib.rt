@@ -48,6 +48,7 @@ fn update_row(
     }
 }
 
+// The first n rows of it.
 #[tactic(auto, unfolding(crate::specs::Step::update_rows_of))]
 fn update_rows(h: &mut [f64; 256], s: [f64; 16], hy: [f64; 16], rho: f64, coef: f64, n: usize)
     requires { n ≤ 16 }
@@ -60,19 +61,16 @@ fn update_rows(h: &mut [f64; 256], s: [f64; 16], hy: [f64; 16], rho: f64, coef: 
 
 impl Dense {
     // H before an update: the first one finds it scaled, if sy and yy are positive (eq. 6.20).
+    #[tactic(auto, unfolding(crate::specs::Step::prepared_of))]
     fn prepared(&self, sy: f64, y: [f64; 16], n: usize) -> [f64; 256]
         requires { n ≤ 16 }
         ensures { result ≡ prepared_of self.now sy y n }
     {
-        if !self.fresh {
-            return self.h;
-        }
-        let yy = vector::dot(y, y, n);
-        if yy > 0.0 {
-            if sy > 0.0 {
+        if self.fresh {
+            let yy = vector::dot(y, y, n);
+            if yy > 0.0 && sy > 0.0 {
                 return diagonal(sy / yy, n);
             }
-            return self.h;
         }
         self.h
     }

@@ -20,7 +20,7 @@ pub struct Limited {
     pub pairs: [Pair; 16],
 }
 
-// What the first loop of the two hands to the second; alphas[i] is that of pair i.
+// What the first loop of the two hands to the second. alphas[i] is that of pair i: they lie beside the pairs, as in the Rust's two loops.
 #[derive(Clone, Copy)]
 pub struct Sweep {
     pub q: [f64; 16],
@@ -60,9 +60,7 @@ fn shifted(pairs: [Pair; 16], k: usize) -> [Pair; 16]
     ensures { result ≡ shifted_of pairs k }
 {
     let mut w = pairs;
-    for i in 0..k {
-        w[i] = pairs[i + 1];
-    }
+    w[..k].copy_from_slice(&pairs[1..=k]);
     w
 }
 
@@ -80,17 +78,15 @@ impl Limited {
     pub fn no_pairs(gamma: f64) -> Limited
         ensures { result ≡ no_pairs_of gamma }
     {
-        let none = [0.0; 16];
-        let p = Pair {
-            s: none,
-            y: none,
+        let none = Pair {
+            s: [0.0; 16],
+            y: [0.0; 16],
             rho: 0.0,
         };
-        let pairs = [p; 16];
         Limited {
             count: 0,
             gamma,
-            pairs,
+            pairs: [none; 16],
         }
     }
 
@@ -100,15 +96,18 @@ impl Limited {
         requires n_bound { n ≤ 16 }
         ensures { result ≡ all_down_of self.now g n }
     {
-        let none = [0.0; 16];
-        let mut w = Sweep { q: g, alphas: none };
+        let mut w = Sweep {
+            q: g,
+            alphas: [0.0; 16],
+        };
         for i in (0..self.count).rev() {
             w = self.pairs[i].down(w, i, n);
         }
         w
     }
 
-    // The second loop: from the oldest pair to the newest.
+    // The second loop: from the oldest pair to the newest. (By `next`: the check does not assign a call's array to a local that is there
+    // already.)
     #[tactic(auto, unfolding(crate::specs::Step::all_up_of))]
     fn all_up(&self, r: [f64; 16], alphas: [f64; 16], n: usize) -> [f64; 16]
         requires count_bound { self.now.count ≤ 16 }

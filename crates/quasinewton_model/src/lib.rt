@@ -22,21 +22,18 @@ impl Model {
     pub fn blank() -> Model
         ensures { result ≡ blank_of }
     {
-        let zeros = [0.0; 256];
-        let dense = Dense {
-            fresh: false,
-            h: zeros,
-        };
-        let pairs = Limited::no_pairs(0.0);
         Model {
             limited: false,
             memory: 0,
-            dense,
-            pairs,
+            dense: Dense {
+                fresh: false,
+                h: [0.0; 256],
+            },
+            pairs: Limited::no_pairs(0.0),
         }
     }
 
-    // The first model of a fit: the identity, or no pairs.
+    // The first model of a fit: the identity, or no pairs. Flag and memory stand apart, as in the record, which crosses to C.
     #[tactic(auto, unfolding(crate::specs::Step::new_model_of))]
     pub fn new_model(limited: bool, memory: usize, n: usize) -> Model
         requires { n ≤ 16 }

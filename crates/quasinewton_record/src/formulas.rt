@@ -2,7 +2,7 @@
 ghost use Rattle.std.specs.Prelude.{◌≡◌, ◌≤◌};
 ghost use Rattle.quasinewton_record.specs.Formulas.{stores_of, small_decrease_of, small_step_of, initial_step_of, not_descending_of};
 
-// The least share of |s| |y| for which a pair is taken in.
+// The share of |s| |y| that a pair's product must be above to be taken in.
 const CURVATURE: f64 = 1e-12;
 // The least |d| that the first step is scaled by.
 const LEAST: f64 = 1e-30;

@@ -1,4 +1,5 @@
-// The record of a gradient fit, before it moves: what it holds, the first one, and what it waits for.
+// The record of a gradient fit: what it holds, the first one, what it waits for, what a refusal makes of it, and what
+// follows a search, in `outcomes`; the tests of a fit, over points, are in `formulas`.
 #![tactic(auto)]
 
 mod formulas;
@@ -43,7 +44,8 @@ pub const BY_REFUSAL: u64 = 12;
 pub const AT_HEAD: u64 = 13;
 
 // What the start fixes. The allowances are numbers: an absent max_iter is its default, an absent
-// max_fevals the largest u64, which no count reaches.
+// max_fevals the largest u64, which no count reaches. It and the record are two arguments of the moves, and no struct of
+// both: it is made anew from the engine's record at each call, and none keeps it.
 #[derive(Clone, Copy)]
 pub struct Fixed {
     pub n: usize,
@@ -55,7 +57,8 @@ pub struct Fixed {
 // A gradient fit as far as it has come, but for its model of the inverse Hessian: what the open question
 // is for, or how the fit ended, with the number and detail of a refusal that ended it; whether no step
 // has been made; rounds done; the point, its value and gradient with the direction of the search (the
-// line); the search; and the differences for the first gradient. What has not been in use is zero.
+// line); the search; and the differences for the first gradient. What has not been in use is zero. It crosses to C
+// as plain numbers, so those of a refusal stand beside the phase, in no enum.
 #[derive(Clone, Copy)]
 pub struct Descent {
     pub phase: u64,

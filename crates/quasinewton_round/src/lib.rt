@@ -1,6 +1,7 @@
 // The rounds of a gradient fit: the opening up to the first head, and from a head its direction, up to the
-// start of its search. The moves are functions, and no methods: the crate that declares the record cannot see what
-// they stand on.
+// start of its search. The moves are functions, and no methods: only the crate that declares the record,
+// `quasinewton_record`, could give it methods, and these moves are a crate of their own above it. `fixed` and the record
+// are two arguments: `quasinewton_record` says why.
 #![tactic(auto)]
 
 mod opening;
@@ -72,6 +73,7 @@ fn steepest(fixed: Fixed, mut q: Descent) -> Descent
     searched(fixed, q, vector::negation(g, fixed.n))
 }
 
+// Along d, or along minus the gradient where d does not descend or is not finite.
 #[tactic(auto, unfolding(crate::specs::Rounds::directed_of))]
 fn directed(fixed: Fixed, q: Descent, d: [f64; 16]) -> Descent
     requires { fixed.n ≤ 16 }

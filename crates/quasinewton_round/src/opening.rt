@@ -1,5 +1,6 @@
-// The opening of a fit: its first value, then its first gradient. `linesearch` has moves of the same names and shape
-// within a search, of another record and with another end: one form for both would be longer than the two.
+// The opening of a fit: its first value, then its first gradient. `linesearch` has moves of the same names within a
+// search. What is done with a value and a gradient differs; `differing` alone is alike, but for the record, the phase
+// and what then takes the gradient: one form for both would be given all three, and be longer than the two.
 ghost use Rattle.std.specs.Prelude.{◌≡◌, ◌≤◌};
 ghost use Rattle.quasinewton_round.specs.Opening.{graded_of, differing_of, valued_of};
 
@@ -18,10 +19,7 @@ pub fn graded(fixed: Fixed, mut q: Descent, g: [f64; 16]) -> Descent
     if vector::all_finite(g, fixed.n) {
         return q;
     }
-    q.refused_by(Refusal {
-        number: 19,
-        detail: 0,
-    })
+    q.refused_by(Refusal::new(19, 0))
 }
 
 // The differences have a question, or are done.
@@ -47,10 +45,7 @@ pub fn valued(fixed: Fixed, mut q: Descent, v: f64) -> Descent
     q.phase = FIRST_GRADIENT;
     q.line.f = v;
     if !float::is_finite(v) {
-        return q.refused_by(Refusal {
-            number: 18,
-            detail: 0,
-        });
+        return q.refused_by(Refusal::new(18, 0));
     }
     if fixed.options.gradients {
         return q;

@@ -12,7 +12,7 @@ pub struct Given {
 }
 
 impl Given {
-    // Before a line, which text's reader reads by the form of the one that is due.
+    // Before a line, which lines_reader reads by the form of the one that is due.
     pub fn fresh(due: Due) -> Given {
         let form = match due {
             Due::Job => Form::Stopped,

@@ -1,6 +1,6 @@
-// The first line of a job: `search G E`, or `differences`. text's reader has no form for it, so that its
-// fields are taken from that reader one by one, as each ends.
-use lines_options::Field;
+// The first line of a job: `search G E`, or `differences`. lines_reader has no form for it, so that its
+// fields are taken from its reader one by one, as each ends.
+use lines_field::{Field, Shape};
 
 // What the line starts: a search, with whether gradients are given and max_evals, or differences.
 #[derive(Clone, Copy)]
@@ -10,7 +10,7 @@ pub enum Job {
 }
 
 // The line as far as it has come: how many fields have ended; how many bytes of `differences` the first
-// one spells so far, none where it spells another word; the first three fields.
+// one spells so far, none where it spells another word; the first three fields, in fixed memory as the engine's.
 #[derive(Clone, Copy)]
 pub struct Head {
     count: usize,
@@ -26,16 +26,6 @@ fn one_more(spelled: usize, b: u8) -> Option<usize> {
         return Some(spelled + 1);
     }
     None
-}
-
-// Whether a field is a text of so many bytes, eight at most, that is this number to the base 256.
-fn spells(f: Field, size: u64, word: u64) -> bool {
-    f.size == size && f.text == Some(word)
-}
-
-// A field as a decimal number.
-fn decimal(f: Field) -> Option<u64> {
-    f.dec.filter(|_| f.size != 0)
 }
 
 impl Head {
@@ -72,14 +62,12 @@ impl Head {
     // `search`, whether gradients are given, and max_evals.
     fn search(self) -> Option<Job> {
         let [name, flag, evals] = self.fields;
-        if !spells(name, 6, 0x7365_6172_6368) {
+        if !name.spells(6, 0x7365_6172_6368) {
             return None;
         }
-        let gradients = spells(flag, 1, 49);
-        if gradients || spells(flag, 1, 48) {
-            return Some(Job::Search(gradients, decimal(evals)?));
-        }
-        None
+        let gradients = flag.judged(Shape::Flag).given()? == 1;
+        let evals = evals.judged(Shape::Decimal).given()?;
+        Some(Job::Search(gradients, evals))
     }
 
     // What the line says, once its last field has ended; none where it has another form.

@@ -42,7 +42,8 @@ pub struct List {
 }
 
 impl List {
-    // The words of a line, none where it is no list.
+    // The words of a line, none where it is no list: `of` and no `From`, since it may fail, nor `TryFrom`, since
+    // nothing is to be said of such a line.
     fn of(l: LineRead) -> Option<List> {
         let n = if l.empty { 0 } else { l.count };
         let words = lines_options::point_line(l, n as u64)?;
@@ -64,7 +65,7 @@ pub struct Search {
 }
 
 impl Search {
-    // c1 c2 step_max initial_step f0, none where the list has another length.
+    // c1 c2 step_max initial_step f0, none where the list has another length: no `From`, as that of a list.
     fn of(numbers: List, gradients: bool, evals: u64) -> Option<Search> {
         if numbers.count != 5 {
             return None;
@@ -158,12 +159,7 @@ impl State {
             return Some(Brought::Next(Due::Job));
         }
         let f = lines_options::answer_line(l)?;
-        let words = f.words;
-        let list = List {
-            count: f.count,
-            words,
-        };
-        Some(Brought::Reply(optim::answer(self.engine, f.number, f.kind, list.lent())))
+        Some(Brought::Reply(optim::answer(self.engine, f.number, f.kind, f.lent())))
     }
 
     // What the line that has ended brings, none where it is another than is due.
@@ -238,8 +234,6 @@ impl State {
 
 fn main(rt: HostRuntime) {
     let begun = State::begun(rt.stdout());
-    let end = test_rows::run(&mut rt.stdin(), begun, State::fed);
-    if let Err(stop) = end.and_then(State::closed) {
-        test_rows::say(&rt, "test_bare_jobs", stop);
-    }
+    let end = test_rows::run(&mut rt.stdin(), begun, State::fed).and_then(State::closed);
+    let _ = test_rows::say(&mut rt.stderr(), "test_bare_jobs", end);
 }

@@ -5,38 +5,32 @@ use protocol::{Found, Kind};
 use std::io::Stdout;
 use test_rows::Stop;
 
-// Writes the first n bytes of the buffer.
-fn line(output: Stdout, out: &[u8], n: usize) -> Result<(), Stop> {
-    output
-        .write_all(&out[..n.min(out.len())])
-        .map_err(|_| Stop::WriteFailed)
+fn line(output: Stdout, bytes: &[u8]) -> Result<(), Stop> {
+    output.write_all(bytes).map_err(|_| Stop::WriteFailed)
+}
+
+// Writes what lines_print puts into a buffer, as many bytes as it says.
+fn printed<F: FnOnce(&mut [u8; 512]) -> usize>(output: Stdout, put: F) -> Result<(), Stop>
+    requires { F.IsAlwaysCallable put }
+{
+    let mut out = [0u8; 512];
+    let n = put(&mut out);
+    line(output, &out[..n.min(512)])
 }
 
 pub fn bad(output: Stdout, number: u64) -> Result<(), Stop> {
-    let mut out = [0u8; 512];
-    let count = lines_print::put_bad(&mut out, number);
-    line(output, &out, count)
+    printed(output, |out| lines_print::put_bad(out, number))
 }
 
 pub fn no(output: Stdout, number: u64, detail: u64) -> Result<(), Stop> {
-    let mut out = [0u8; 512];
-    let count = lines_print::put_no(&mut out, number, detail);
-    line(output, &out, count)
+    printed(output, |out| lines_print::put_no(out, number, detail))
 }
 
 pub fn ask(output: Stdout, number: u64, kind: Kind, x: [f64; 16], n: usize) -> Result<(), Stop> {
-    let mut out = [0u8; 512];
-    let count = lines_print::put_ask(&mut out, number, kind, x, n);
-    line(output, &out, count)
+    printed(output, |out| lines_print::put_ask(out, number, kind, x, n))
 }
 
-fn text(output: Stdout, t: &Text) -> Result<(), Stop> {
-    let mut out = [0u8; 512];
-    let count = t.put(&mut out);
-    line(output, &out, count)
-}
-
-// `searched`, success, step, f, the count of trials, the point, the gradient: longer than a text, so in two.
+// `searched`, success, step, f, the count of trials, the point, the gradient.
 pub fn searched(
     output: Stdout,
     found: Found,
@@ -44,7 +38,7 @@ pub fn searched(
     g: [f64; 16],
     n: usize,
 ) -> Result<(), Stop> {
-    let mut t = Text::new();
+    let mut t = Text::<1024>::new();
     t.push_bytes(b"searched ");
     if found.success {
         t.push_bytes(b"yes");
@@ -55,18 +49,16 @@ pub fn searched(
     t.push_value(found.f);
     t.push_count(found.trials);
     t.push_values(&x[..n.min(16)]);
-    text(output, &t)?;
-    let mut rest = Text::new();
-    rest.push_values(&g[..n.min(16)]);
-    rest.push(b'\n');
-    text(output, &rest)
+    t.push_values(&g[..n.min(16)]);
+    t.push(b'\n');
+    line(output, t.as_bytes())
 }
 
 // `differenced`, the gradient.
 pub fn differenced(output: Stdout, g: [f64; 16], n: usize) -> Result<(), Stop> {
-    let mut t = Text::new();
+    let mut t = Text::<512>::new();
     t.push_bytes(b"differenced");
     t.push_values(&g[..n.min(16)]);
     t.push(b'\n');
-    text(output, &t)
+    line(output, t.as_bytes())
 }

@@ -5,7 +5,7 @@ use optim::Record;
 fn list(a: [f64; 16], index: u64, word: u64) -> [f64; 16] {
     let mut out = a;
     if let Some(x) = out.get_mut(index as usize) {
-        *x = test_rows::value(word);
+        *x = lines_forms::value(word);
     }
     out
 }
@@ -22,7 +22,7 @@ pub fn record(before: Record, field: u64, index: u64, word: u64) -> Record {
         4 => r.counts.gevals = word,
         5 => r.diff.at = word as usize,
         6 => r.diff.forward = word == 1,
-        7 => r.diff.value = test_rows::value(word),
+        7 => r.diff.value = lines_forms::value(word),
         8 => r.diff.x = list(r.diff.x, index, word),
         9 => r.diff.g = list(r.diff.g, index, word),
         _ => {}

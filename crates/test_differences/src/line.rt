@@ -25,9 +25,9 @@ impl Row {
         0 < self.digits || 0 < self.count
     }
 
-    // One digit more, of at most sixteen.
+    // One digit more, of at most sixteen. A line is fed byte by byte, where test_float reads a slice.
     fn spelling(self, b: u8) -> Option<Row> {
-        let d = test_rows::digit(b)?;
+        let d = lines_field::digit(b)?;
         if 15 < self.digits {
             return None;
         }
@@ -63,7 +63,7 @@ impl Row {
         }
     }
 
-    // The word at a place, or 0 where the line has none.
+    // The word at a place, or 0 where the line has none: such a line has another count, and so it differs.
     pub fn word(&self, at: usize) -> u64 {
         self.words.get(at).copied().unwrap_or(0)
     }

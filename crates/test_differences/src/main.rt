@@ -20,12 +20,12 @@ struct Reply {
     list: [f64; 16],
 }
 
-impl Reply {
-    fn of(a: &Answered) -> Reply {
+impl From<&Answered> for Reply {
+    fn from(a: &Answered) -> Reply {
         let n = a.next.n as u64;
         match a.said {
             Said::Ask(number, kind) => Reply {
-                head: [0, number, protocol::letter(kind) as u64, n],
+                head: [0, number, u64::from(u8::from(kind)), n],
                 list: a.x,
             },
             Said::Differenced => Reply {
@@ -42,7 +42,9 @@ impl Reply {
             },
         }
     }
+}
 
+impl Reply {
     // Whether it is what the line has from a place on; and the place behind it.
     fn agrees(&self, l: &Row, at: usize) -> Option<usize> {
         let m = self.head[3] as usize;
@@ -55,7 +57,7 @@ impl Reply {
             .all(|(i, w)| l.word(at.saturating_add(i)) == *w);
         let list = listed.iter().enumerate().all(|(i, v)| test_rows::same(
             *v,
-            test_rows::value(l.word(from.saturating_add(i))),
+            lines_forms::value(l.word(from.saturating_add(i))),
         ));
         if head && list {
             return Some(from.saturating_add(m));
@@ -80,7 +82,7 @@ fn record_agrees(before: &Record, after: &Record, l: &Row, at: usize) -> bool {
 
 // Whether the reply and the record that came back are those of the line, whose operands have k words.
 fn agrees(before: &Record, a: &Answered, l: &Row, k: usize) -> bool {
-    match Reply::of(a).agrees(l, k.saturating_add(4)) {
+    match Reply::from(a).agrees(l, k.saturating_add(4)) {
         Some(at) => record_agrees(before, &a.next, l, at),
         None => false,
     }
@@ -90,7 +92,7 @@ fn agrees(before: &Record, a: &Answered, l: &Row, k: usize) -> bool {
 fn operands(l: &Row) -> [f64; 32] {
     let mut out = [0.0; 32];
     for (i, x) in out.iter_mut().enumerate() {
-        *x = test_rows::value(l.word(i.saturating_add(4)));
+        *x = lines_forms::value(l.word(i.saturating_add(4)));
     }
     out
 }
@@ -167,5 +169,6 @@ impl Table for State {
 }
 
 fn main(rt: HostRuntime) {
-    test_rows::replay(&rt, &mut rt.stdin(), "test_differences", State::begun());
+    let end = test_rows::replay(&mut rt.stdin(), &mut rt.stdout(), State::begun());
+    let _ = test_rows::say(&mut rt.stderr(), "test_differences", end);
 }

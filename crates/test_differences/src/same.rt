@@ -5,7 +5,6 @@ use neldermead::Simplex;
 use neldermead_vertices::Vertex;
 use objective::Differences;
 use optim::Record;
-use optim_record::{Counts, Limits};
 use protocol::{GradientOptions, SimplexOptions, WolfeOptions};
 use quasinewton::Descent;
 use quasinewton_model::{Dense, Limited, Model, Pair};
@@ -20,14 +19,6 @@ fn all<T: Copy, F: Fn(T, T) -> bool>(a: &[T], b: &[T], same: F) -> bool
 
 fn list(a: &[f64; 16], b: &[f64; 16]) -> bool {
     all(a, b, number)
-}
-
-fn counts(a: Counts, b: Counts) -> bool {
-    a.fevals == b.fevals && a.gevals == b.gevals
-}
-
-fn limits(a: Limits, b: Limits) -> bool {
-    a.iter == b.iter && a.fevals == b.fevals
 }
 
 fn options(a: SimplexOptions, b: SimplexOptions) -> bool {
@@ -139,8 +130,8 @@ pub fn record(a: &Record, b: &Record) -> bool {
     a.accepted == b.accepted
         && a.job == b.job
         && a.n == b.n
-        && counts(a.counts, b.counts)
-        && limits(a.limits, b.limits)
+        && a.counts == b.counts
+        && a.limits == b.limits
         && options(a.options, b.options)
         && gradient(a.gradient, b.gradient)
         && differences(&a.diff, &b.diff)

@@ -171,10 +171,10 @@ impl Table for Sample {
 }
 
 fn main(rt: HostRuntime) {
-    test_rows::replay(
-        &rt,
+    let end = test_rows::replay(
         &mut rt.stdin(),
-        "test_fits",
+        &mut rt.stdout(),
         Sample::fresh(Tally::none()),
     );
+    let _ = test_rows::say(&mut rt.stderr(), "test_fits", end);
 }

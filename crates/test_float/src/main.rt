@@ -6,11 +6,12 @@
 
 use test_rows::{Table, Tally};
 
-// The number that hexadecimal digits spell, sixteen at most.
+// The number that hexadecimal digits spell, sixteen at most. It reads a slice, where test_differences is fed a line
+// byte by byte.
 fn read_word(digits: &[u8]) -> Option<u64> {
     let mut bits: u64 = 0;
     for b in digits {
-        bits = (bits << 4) | test_rows::digit(*b)?;
+        bits = (bits << 4) | lines_field::digit(*b)?;
     }
     Some(bits)
 }
@@ -36,7 +37,7 @@ fn agrees(op: u8, a: f64, b: f64, expected: u64) -> bool {
         b't' => return ordering(a, b) == expected,
         _ => return false,
     };
-    test_rows::same(found, test_rows::value(expected))
+    test_rows::same(found, lines_forms::value(expected))
 }
 
 // Whether a row has its form, and its result is the float crate's; none where it has another form.
@@ -45,7 +46,7 @@ fn row_agrees(row: &[u8; 53]) -> Option<bool> {
     let b = read_word(&row[19..35])?;
     let r = read_word(&row[36..52])?;
     let parted = row[1] == b' ' && row[18] == b' ' && row[35] == b' ' && row[52] == b'\n';
-    Some(parted && agrees(row[0], test_rows::value(a), test_rows::value(b), r))
+    Some(parted && agrees(row[0], lines_forms::value(a), lines_forms::value(b), r))
 }
 
 // The count so far, and the row as far as it has come: fixed memory, as the engine's, since a row has
@@ -92,5 +93,6 @@ impl Table for Rows {
 }
 
 fn main(rt: HostRuntime) {
-    test_rows::replay(&rt, &mut rt.stdin(), "test_float", Rows::begun());
+    let end = test_rows::replay(&mut rt.stdin(), &mut rt.stdout(), Rows::begun());
+    let _ = test_rows::say(&mut rt.stderr(), "test_float", end);
 }

@@ -1,18 +1,15 @@
 -- A run so far: what was read, and where its parts lead. Assumes nothing.
-use Rattle.std.proofs.Common.{◌≡◌, ℕ, List, [], ◌∷◌, ◌++◌, Option, Result, Ok, Bor, IfSome, take, refl, sym, ap, subst, ◌∙◌, append-nil}
-use Rattle.std.proofs.KnownBytes.{Consumes-nil, Consumes-trans, Consumes-whole}
+use Rattle.std.proofs.Common.{◌≡◌, ℕ, List, [], ◌∷◌, ◌++◌, Option, Result, Ok, Bor, sym, ap, ◌∙◌, append-nil}
+use Rattle.std.proofs.KnownBytes.{Consumes-trans}
 use Rattle.std.proofs.lemmas.Fn.{FoldsTo-push}
 use Rattle.std.proofs.lemmas.List.Folds.{concat-append}
-use Rattle.std.specs.Io.KnownBytes.{Consumes, IsAtEnd}
-use Rattle.std.specs.List.{FoldsTo, concat}
+use Rattle.std.specs.Io.KnownBytes.{Consumes}
+use Rattle.std.specs.List.{concat}
 use Rattle.test_rows.specs.Runs.{InParts}
 
 -- bytes were read from a reader that had a left and has b, and lead from z to s
 abbrev pub Went : {S E : Type 0} → (S → Bor (List ℕ) → Result S E → Type 0) → Option (List ℕ) → Option (List ℕ) → S → S → Type 0
 Went R a b z s = (bs : List ℕ) × Consumes a b bs × InParts R z bs s
-
-pub begun : {S E : Type 0} (R : S → Bor (List ℕ) → Result S E → Type 0) (a : Option (List ℕ)) (z : S) → Went R a a z z
-begun R a z = ([], Consumes-nil a, ([], refl, refl))
 
 -- a part more
 pub part_more : {S E : Type 0} (R : S → Bor (List ℕ) → Result S E → Type 0) (a b c : Option (List ℕ)) (z s t : S) (x : Bor (List ℕ)) (cs : List ℕ) → Went R a b z s
@@ -26,11 +23,3 @@ part_more {S} R a b c z s t x cs (bs, read, (parts, split, folds)) more at made 
     FoldsTo-push (λ (p : S) (part : List ℕ) (q : S). (y : Bor (List ℕ)) × (y.now ≡ part) × R p y (Ok q)) z parts s cs t folds (x, at, made),
   ),
 )
-
--- a read of none shows the end
-pub whole : {S E : Type 0} (R : S → Bor (List ℕ) → Result S E → Type 0) (a b c : Option (List ℕ)) (z s : S) (n : ℕ) (cs : List ℕ) → Went R a b z s
-    → Consumes b c (take n cs) → n ≡ 0 → IsAtEnd c → IfSome a (λ bs. InParts R z bs s)
-whole R a b c z s n cs (bs, read, parts) none zero end =
-    let C : ℕ → Type 0 = λ k. Consumes b c (take k cs) in
-    let P : List ℕ → Type 0 = λ l. InParts R z l s in
-    Consumes-whole a c (bs ++ []) P (Consumes-trans a b c bs [] read (subst C zero none)) end (subst P (sym (append-nil bs)) parts)

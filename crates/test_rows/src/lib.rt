@@ -1,16 +1,20 @@
-// What the programs that the gate runs share: digits, the bits of values, the count of the rows of a
+// What the programs that the gate runs share: whether values have the same bits, the count of the rows of a
 // table of the Rust's results, and the loop that reads standard input.
 #![tactic(auto)]
 
-ghost use Rattle.std.specs.Prelude.{◌≡◌, ◌≤◌, ◌==◌, length, IfOk, IfSome};
+ghost use Rattle.std.specs.Prelude.{◌≡◌, ◌≤◌, ◌==◌, ◌++◌, ⊤, ℕ, length, IfOk, IfSome, OnOk};
+ghost use Rattle.std.specs.Io.KnownBytes.{Appends};
+ghost use Rattle.std.specs.List.{FoldsTo};
 ghost use Rattle.std.specs.Float.{binary64};
-ghost use Rattle.std.specs.Float.Ieee.{of_bits, to_bits};
+ghost use Rattle.std.specs.Float.Ieee.{to_bits};
 ghost use Rattle.lines_buffer.specs.Texts.{filled};
-ghost use Rattle.test_rows.specs.Rows.{digit_of, none_of, counted_of, report_text};
-ghost use Rattle.test_rows.specs.Runs.{InParts};
+ghost use Rattle.test_rows.specs.declared.Tally.{Tally};
+ghost use Rattle.test_rows.specs.Rows.{none_of, counted_of, report_text, said_text};
+ghost use Rattle.test_rows.specs.Runs.{InParts, Counts};
 
 use lines_buffer::{Text, bits};
-use std::io::Read;
+use std::io;
+use std::io::{Read, Write};
 
 // What is counted: rows, those that differ, and the first of these.
 #[derive(Clone, Copy)]
@@ -30,34 +34,19 @@ pub enum Stop {
 
 // A table that is replayed, as far as it is read.
 pub trait Table: Copy {
+    // What a byte may lead to, and what may be counted at the end. A table that claims nothing of them, as those of
+    // the programs, is held to its rows by what the program prints.
+    ghost feeds: { Self → ℕ → Self → Type 0 } = { λ _ _ _. ⊤ };
+
+    ghost closes: { Self → Tally → Type 0 } = { λ _ _. ⊤ };
+
     // One byte more.
-    fn fed(&mut self, b: u8);
+    fn fed(&mut self, b: u8)
+        ensures { feeds self.old b self.new };
 
     // The count where the table ends.
-    fn closed(self) -> Tally;
-}
-
-// A hexadecimal digit's number.
-#[tactic(auto, unfolding(crate::specs::Rows::digit_of))]
-pub fn digit(b: u8) -> Option<u64>
-    ensures { result ≡ digit_of b }
-{
-    match b {
-        b'0'..=b'9' => Some((b - b'0') as u64),
-        b'A'..=b'F' => Some((b - b'A') as u64 + 10),
-        _ => None,
-    }
-}
-
-// The value of a bit pattern. Every NaN pattern is taken in as one NaN, since the bits of a NaN are
-// not to be read back.
-pub fn value(bits: u64) -> f64
-    ensures { result ≡ of_bits binary64 bits }
-{
-    if 0x7ff0_0000_0000_0000 < bits & 0x7fff_ffff_ffff_ffff {
-        return 0.0 / 0.0;
-    }
-    f64::from_bits(bits)
+    fn closed(self) -> Tally
+        ensures { closes self result };
 }
 
 // Whether two values have the same bits, one pattern counting for every NaN.
@@ -139,21 +128,29 @@ pub fn run<R: Read, S: Copy, F: Fn(S, &[u8]) -> Result<S, Stop>>(
     Err(Stop::Over)
 }
 
-// Says on standard error what failed. No contract knows what a stream of the system takes: this one and
-// `replay` say nothing of it.
-pub fn say(rt: &impl Eprint, program: &str, stop: Stop) {
-    match stop {
-        Stop::Over => {}
-        Stop::ReadFailed => {
-            let _ = eprintln!(rt; "{program}: a read of standard input failed");
-        }
-        Stop::WriteFailed => {
-            let _ = eprintln!(rt; "{program}: a write to standard output failed");
-        }
+fn said<W: Write>(errors: &mut W, program: &str, what: &str) -> io::Result<()>
+    ensures { OnOk result (Appends (W.contents errors.old) (W.contents errors.new) (program.now ++ what.now)) }
+{
+    errors.write_all(program.as_bytes())?;
+    errors.write_all(what.as_bytes())
+}
+
+// Says what failed and in which program, where a read or a write did. Where a write fails no contract of this
+// crate tells what was written: the library's `write_all` does not, nor what a stream of the system takes.
+#[tactic(auto, unfolding(crate::specs::Rows::said_text))]
+pub fn say<W: Write>(errors: &mut W, program: &str, end: Result<(), Stop>) -> io::Result<()>
+    ensures { OnOk result (Appends (W.contents errors.old) (W.contents errors.new) (said_text program.now end)) }
+{
+    match end {
+        Ok(()) | Err(Stop::Over) => Ok(()),
+        Err(Stop::ReadFailed) => said(errors, program, ": a read of standard input failed\n"),
+        Err(Stop::WriteFailed) => said(errors, program, ": a write to standard output failed\n"),
     }
 }
 
-fn fed_part<T: Table>(begun: T, part: &[u8]) -> T {
+fn fed_part<T: Table>(begun: T, part: &[u8]) -> T
+    ensures { FoldsTo T.feeds begun part.now result }
+{
     let mut t = begun;
     for b in part {
         t.fed(*b);
@@ -161,22 +158,25 @@ fn fed_part<T: Table>(begun: T, part: &[u8]) -> T {
     t
 }
 
-// Writes the line of a replay's end.
-fn report(rt: &impl Print, t: Tally) -> Result<(), Stop> {
-    let mut out = [0u8; 512];
-    let n = t.put_report(&mut out);
-    rt.write_all(&out[..n]).map_err(|_| Stop::WriteFailed)
+// What is counted where the input ends.
+fn counted<T: Table, R: Read>(input: &mut R, begun: T) -> Result<Tally, Stop>
+    ensures { IfOk result (λ t. IfSome (R.remaining input.old) (λ bs. Counts T.feeds T.closes begun bs t)) }
+{
+    let end = run(input, begun, |t, part| Ok(fed_part(t, part)))?;
+    Ok(end.closed())
 }
 
-// Replays the table on standard input byte by byte, and writes what is counted at its end.
-pub fn replay<T: Table, R: Read>(
-    rt: &(impl Print + Eprint),
+// Replays the table on an input byte by byte, and writes what is counted at its end.
+pub fn replay<T: Table, R: Read, W: Write>(
     input: &mut R,
-    program: &str,
+    output: &mut W,
     begun: T,
-) {
-    let end = run(input, begun, |t, part| Ok(fed_part(t, part)));
-    if let Err(stop) = end.and_then(|t| report(rt, t.closed())) {
-        say(rt, program, stop);
-    }
+) -> Result<(), Stop>
+    ensures { OnOk result (IfSome (R.remaining input.old) (λ bs.
+        (t : Tally) × Counts T.feeds T.closes begun bs t × Appends (W.contents output.old) (W.contents output.new) (report_text t))) }
+{
+    let t = counted(input, begun)?;
+    let mut out = [0u8; 512];
+    let n = t.put_report(&mut out);
+    output.write_all(&out[..n]).map_err(|_| Stop::WriteFailed)
 }

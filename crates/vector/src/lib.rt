@@ -1,7 +1,9 @@
-// Points of the first n of sixteen coordinates, those past n zero: there is no heap, and a point crosses to C as
-// sixteen numbers. Three functions hold the loops, and the others hand them a closure.
+// Points of the first n of sixteen coordinates: there is no heap, and a point crosses to C as sixteen numbers. What lies past n is
+// never read, and is zero in every point that is made here. Three functions hold the loops, and the others hand them a closure.
 // That n is at most 16 is asked of each function that reads n, here and in the crates above, and is no invariant of
-// a struct: those that hold n are public and built by anyone, so an invariant would ask more of callers.
+// a struct: those that hold n are public and built by anyone, so an invariant would ask more of callers. A type for n would be
+// built in each function from the plain n of such a struct, by the same fact. Slices in place of arrays and n would carry
+// a length each, and that two lengths are equal would be asked instead.
 #![tactic(auto)]
 
 ghost use Rattle.std.specs.Prelude.{◌≡◌, ◌≤◌, ◌<◌, ℕ, length};
@@ -46,7 +48,7 @@ pub fn every<F: Fn(usize) -> bool>(n: usize, f: F) -> bool
     true
 }
 
-// The point that a slice lists.
+// The point that the first n numbers of a slice list: n stands beside the slice, which may be longer.
 pub fn from_slice(s: &[f64], n: usize) -> [f64; 16]
     requires n_bound { n ≤ 16 }
     requires n_in_bounds { n ≤ length s.now }
@@ -150,7 +152,7 @@ pub fn shrunk(b: [f64; 16], v: [f64; 16], t: f64, n: usize) -> [f64; 16]
     filled(n, |i| b[i] + t * (v[i] - b[i]))
 }
 
-// Row i of h, a matrix of sixteen columns, by v.
+// The first n columns of row i of h, a matrix of sixteen columns, by v.
 pub fn row_dot(h: &[f64; 256], i: usize, v: [f64; 16], n: usize) -> f64
     requires i_bound { i < 16 }
     requires n_bound { n ≤ 16 }

@@ -1,6 +1,6 @@
 -- `fit_state::scanned` meets its contract: what is to be scanned from here on is what was to be scanned. Assumes nothing.
 use Prim.Native.Nat.{◌+◌}
-use mathlib.Core.Path.{◌≡◌, refl, ap, ◌∙◌}
+use mathlib.Core.Path.{◌≡◌, ap, ◌∙◌}
 use mathlib.Core.Logic.{inl, inr}
 use native.Mathlib.Omega.{arith}
 use lib.ListN.{length, drop, get_or}
@@ -10,9 +10,6 @@ use Rattle.lines_reader.specs.declared.Reader.{Reader}
 use Rattle.fit_state.specs.States.{scanned_of}
 use Rattle.fit_state.proofs.Scans.{scan_feed, scan_go, scan_end}
 use Rattle.fit_state.proofs.scanned.Goals as goal
-
-pub loop-i-init : goal.loop-i-init
-loop-i-init c = record { kept = refl; past = λ h. omega arith }
 
 pub returns-then-b-eq10 : goal.returns-then-b-eq10
 returns-then-b-eq10 c =

@@ -1,36 +1,13 @@
 -- `float::full_width` meets its contract. Assumes nothing.
 use native.Mathlib.Omega.{arith}
 use lib.Bits.{bit_and}
-use Rattle.float.proofs.Widths.{Top, found, full_low, full_high, fraction}
+use Rattle.float.proofs.Widths.{Top, found, full_low, full_high}
 use Rattle.float.proofs.full_width.Goals as goal
 
 pub overflow_sub-shift : goal.overflow_sub-shift
 overflow_sub-shift c =
     let top : Top (bit_and c.args.b 0x000f_ffff_ffff_ffff) = found c.args.b c.requires.b_nonzero c.if-exponent-eq0.true in
     omega (arith, top.zeros, top.below)
-
-pub overflow_cast-result : goal.overflow_cast-result
-overflow_cast-result c =
-    let top : Top (bit_and c.args.b 0x000f_ffff_ffff_ffff) = found c.args.b c.requires.b_nonzero c.if-exponent-eq0.true in
-    omega (arith, top.zeros)
-
-pub overflow_shl-result : goal.overflow_shl-result
-overflow_shl-result c =
-    let top : Top (bit_and c.args.b 0x000f_ffff_ffff_ffff) = found c.args.b c.requires.b_nonzero c.if-exponent-eq0.true in
-    omega (arith, top.zeros)
-
-pub overflow_cast-result-then-exponent-eq0 : goal.overflow_cast-result-then-exponent-eq0
-overflow_cast-result-then-exponent-eq0 c =
-    let top : Top (bit_and c.args.b 0x000f_ffff_ffff_ffff) = found c.args.b c.requires.b_nonzero c.if-exponent-eq0.true in
-    omega (arith, top.zeros)
-
-pub overflow_sub-result : goal.overflow_sub-result
-overflow_sub-result c =
-    let top : Top (bit_and c.args.b 0x000f_ffff_ffff_ffff) = found c.args.b c.requires.b_nonzero c.if-exponent-eq0.true in
-    omega (arith, top.zeros)
-
-pub overflow_add-result : goal.overflow_add-result
-overflow_add-result c = omega (arith, fraction c.args.b)
 
 pub returns-then-exponent-eq0 : goal.returns-then-exponent-eq0
 returns-then-exponent-eq0 c = full_low c.args.b c.requires.b_nonzero c.if-exponent-eq0.true

@@ -1,6 +1,5 @@
 -- `float::positive_root` meets its contract. Assumes nothing.
-use native.Mathlib.Omega.{arith}
-use Rattle.float.proofs.Rounded.{width, r_high, no_nan, result_is}
+use Rattle.float.proofs.Rounded.{width, no_nan, result_is}
 use Rattle.float.proofs.positive_root.Goals as goal
 
 pub integer_root-requires : goal.integer_root-requires
@@ -8,11 +7,6 @@ integer_root-requires c =
     let p = c.full_width-p in
     let w = width c.args.b p.result.m p.result.e p.ensures in
     record { w_large = w.0; w_bound = w.1 }
-
-pub overflow_add-q : goal.overflow_add-q
-overflow_add-q c =
-    let p = c.full_width-p in
-    omega (arith, r_high c.args.b p.result.m p.result.e p.ensures c.integer_root.result c.integer_root.ensures)
 
 pub float_from_bits-result : goal.float_from_bits-result
 float_from_bits-result c =

@@ -24,6 +24,6 @@ any_taken v (suc k) h =
 
 pub returns : goal.returns
 returns c =
-    let long : length c.args.v ≡ 17 = search rules in
-    any_from_yields_List {all = take c.args.k c.args.v} (λ (u : Vertex). finite_of u.f) _ _ c.any.result c.any.ensures.ran (YieldsList-from_slice _ (search rules)) (λ x b q k. search (rules, tests))
-    ∙ any_taken c.args.v c.args.k (omega (arith, c.requires))
+    let long : length c.args.v.now ≡ 17 = search rules in
+    any_from_yields_List {all = take c.args.k c.args.v.now} (λ (u : Vertex). finite_of u.f) _ _ c.any.result c.any.ensures.ran (YieldsList-from_slice _ (search rules)) (λ x b q k. search (rules, tests))
+    ∙ any_taken c.args.v.now c.args.k (omega (arith, c.requires))

@@ -9,4 +9,4 @@ use Rattle.neldermead_vertices.proofs.size.Goals as goal
 
 pub returns : goal.returns
 unfolding size_of of_bits
-returns c = c.folded.ensures (λ m i. max_of m (inf_norm_of (difference_of (vertex_at c.args.v (i + 1)).x (vertex_at c.args.v 0).x c.args.n) c.args.n)) (λ m i l r p. search rules)
+returns c = c.folded.ensures (λ m i. max_of m (inf_norm_of (difference_of (vertex_at c.args.v.now (i + 1)).x (vertex_at c.args.v.now 0).x c.args.n) c.args.n)) (λ m i l r p. search rules)

@@ -4,6 +4,7 @@ use Prim.Native.Nat.{ℕ}
 use mathlib.Core.Path.{◌≡◌, refl, sym, ap, subst, ◌∙◌}
 use mathlib.Core.Bool.{Bool, true, false}
 use mathlib.Core.List.{List}
+use mathlib.Core.Logic.{inl, inr}
 use native.Mathlib.Omega.{arith}
 use lib.Dec.{eqb}
 use lib.ListN.{length}
@@ -13,7 +14,7 @@ use Rattle.quasinewton_model.specs.declared.Model.{Model}
 use Rattle.quasinewton_model.specs.Step.{FewPairs}
 use Rattle.quasinewton.proofs.Range.{after_few}
 use Rattle.optim_record.specs.declared.Record.{Record}
-use Rattle.optim_record.specs.Record.{gradient_fixed_of, Ranges, Open, Stands}
+use Rattle.optim_record.specs.Record.{gradient_fixed_of, Other, Ranges, Open, Stands}
 use Rattle.optim_reply.proofs.Says.{says, says_also}
 use Rattle.optim_rules.specs.Rules.{meets_of, accepts_of, accepted_of}
 use Rattle.optim_rules.specs.Moves.{Worded}
@@ -23,9 +24,9 @@ use Rattle.optim_reply.specs.Spoken.{reply_with}
 use Rattle.optim.specs.Answer.{answer_of}
 use Rattle.optim.specs.Parts.{replied_of}
 use Rattle.optim_reply.specs.Standing.{refused_of, standing_of}
-use Rattle.optim.proofs.Advance.{with_parts, model_of, moved_of, model_stored, model_left, descent_on, simplex_moved, search_moved, asking_moved, descent_moved, differences_moved, due_simplex, due_other, moved_accepted, accepted_ranges, accepted_open, accepted_worded, kept_of, kept_moved, kept_left, kept_stands, replies}
+use Rattle.optim.proofs.Advance.{with_parts, model_of, moved_of, model_stored, model_left, descent_on, simplex_moved, search_moved, asking_moved, descent_moved, differences_moved, between, beside, due_simplex, due_other, accepted_ranges, accepted_open, accepted_worded, kept_of, kept_counted, kept_left, kept_stands, replies}
 use Rattle.optim.proofs.answer.Goals as goal
-use Rattle.optim.proofs.answer.Goals.{then-accepted, else-accepted, then-q-eq-SIMPLEX, else-q-eq-SIMPLEX+then-q-eq-SEARCH, else-q-eq-SIMPLEX+else-q-eq-SEARCH+then-gradient_job+then-asks, else-q-eq-SIMPLEX+else-q-eq-SEARCH+then-gradient_job+else-asks, else-q-eq-SIMPLEX+else-q-eq-SEARCH+else-gradient_job, then-stores, else-stores}
+use Rattle.optim.proofs.answer.Goals.{Joined-accepted, In_default, then-accepted, else-accepted, in-1, in-4, in-2+then-asks, in-2+else-asks, in_default+in_default, in_default-via-then-q-lt1, in_default-via-else-q-lt1+else-q-lt4, then-stores, else-stores}
 
 -- an answer that meets no refusal, by the call that decides whether it is accepted
 decides : (r : Record) (number kind : ℕ) (words : List Float) (b v : Bool) → Ok b ≡ accepted_of r number kind (length words) → b ≡ v
@@ -61,139 +62,114 @@ said_of : (r : Record) (why : ℕ) → why ≡ 0 → standing_of r ≡ replied_o
 unfolding replied_of
 said_of r why z = rw z
 
+module _ (r : Record) (number kind : ℕ) (words : List Float) (b : Bool) (e : Ok b ≡ accepted_of r number kind (length words)) (t : b ≡ true) where
+  took : accepts_of r number (meets_of r number kind (length words)) ≡ true
+  took = (decides r number kind words b true e t).1
+
+  -- what is known of the record of an answer that is accepted
+  in_range : Ranges r
+  in_range = accepted_ranges r number kind words took
+
+  is_open : Open r
+  is_open = accepted_open r number kind words took
+
+  worded : Worded r words
+  worded = accepted_worded r number kind words took
+
+-- the record that is kept, where the branches meet
+kept_is : (c : Joined-accepted) → c.if-accepted.q ≡ kept_of c.args.r c.args.number c.args.kind c.args.words.now
+kept_is c =
+    let r = c.args.r in
+    let words = c.args.words.now in
+    elim c.if-accepted.branch [
+      | then-accepted v ↦
+          let parts_are : v.match-q.q ≡ moved_of r words = elim v.match-q.branch [
+            | in-1 w ↦ w.q-is ∙ simplex_moved r words _ w.in-1.is w.simplex_told-next.ensures
+            | in-4 w ↦ w.q-is ∙ search_moved r words _ w.in-4.is w.search_told-next.ensures
+            | in-2+then-asks w ↦ w.q-is ∙ asking_moved r words (let other = w.in-2 in between r.job (grind arith) (grind arith)) _ w.descent_told-told.ensures (sym w.asks.ensures ∙ w.if-asks.true)
+            | in-2+else-asks w ↦
+                let model : w.if-stores.q ≡ with_parts r r.diff r.simplex r.descent (model_of r words) = elim w.if-stores.branch [
+                  | then-stores u ↦ u.q-is ∙ ap (λ (m : Model). with_parts r r.diff r.simplex r.descent m) (model_stored r words _ _ w.gradient_fixed-fixed.ensures w.descent_told-told.ensures _ _ w.stores.ensures u.if-stores.true u.updated-q.ensures)
+                  | else-stores u ↦ u.q-is ∙ ap (λ (m : Model). with_parts r r.diff r.simplex r.descent m) (model_left r words _ _ w.gradient_fixed-fixed.ensures w.descent_told-told.ensures _ w.stores.ensures u.if-stores.false)
+                ] in
+                w.q-is ∙ descent_moved r words (let other = w.in-2 in between r.job (grind arith) (grind arith)) w.if-stores.q _ model
+                (descent_on r words _ _ w.gradient_fixed-fixed.ensures w.descent_told-told.ensures w.if-stores.q.model _ _ (ap (λ (p : Record). p.model) model) v.counted-counts.ensures w.settled-next.ensures)
+            | in_default+in_default w ↦
+                let o : Other r = elim w.in_default.branch [
+                  | in_default-via-then-q-lt1 u ↦ let other = u in beside r (inl (grind arith))
+                  | in_default-via-else-q-lt1+else-q-lt4 u ↦ let other = u in beside r (inr (grind arith))
+                ] in
+                w.q-is ∙ differences_moved r words o _ w.told-next.ensures
+          ] in
+          v.q-is ∙ kept_counted r c.args.number c.args.kind words v.match-q.q _ (took c.args.r c.args.number c.args.kind c.args.words.now _ c.in-Ok.ensures v.if-accepted.true) parts_are v.counted-counts.ensures
+      | else-accepted v ↦ v.q-is ∙ kept_left r c.args.number c.args.kind words (decides r c.args.number c.args.kind words _ false c.in-Ok.ensures v.if-accepted.false).1
+    ]
+
 pub counted-counts-requires : goal.counted-counts-requires
-counted-counts-requires c =
-    let took = (decides c.args.r c.args.number c.args.kind c.args.words.now _ true c.in-Ok.ensures c.if-accepted.true).1 in
-    let in_range : Ranges c.args.r = accepted_ranges c.args.r c.args.number c.args.kind c.args.words.now took in
-    in_range
+counted-counts-requires c = in_range c.args.r c.args.number c.args.kind c.args.words.now _ c.in-Ok.ensures c.if-accepted.true
 
 pub simplex_told-next-requires : goal.simplex_told-next-requires
 simplex_told-next-requires c =
-    let took = (decides c.args.r c.args.number c.args.kind c.args.words.now _ true c.in-Ok.ensures c.if-accepted.true).1 in
-    let in_range : Ranges c.args.r = accepted_ranges c.args.r c.args.number c.args.kind c.args.words.now took in
-    let worded : Worded c.args.r c.args.words.now = accepted_worded c.args.r c.args.number c.args.kind c.args.words.now took in
-    record { ranges = in_range; job_value = c.if-q-eq-SIMPLEX.true; words_nonzero = omega (arith, worded.1 (due_simplex c.args.r c.if-q-eq-SIMPLEX.true)) }
+    let w = worded c.args.r c.args.number c.args.kind c.args.words.now _ c.in-Ok.ensures c.if-accepted.true in
+    record { ranges = in_range c.args.r c.args.number c.args.kind c.args.words.now _ c.in-Ok.ensures c.if-accepted.true; job_value = c.in-1.is; words_nonzero = omega (arith, w.1 (due_simplex c.args.r c.in-1.is)) }
 
 pub search_told-next-requires : goal.search_told-next-requires
-search_told-next-requires c =
-    let took = (decides c.args.r c.args.number c.args.kind c.args.words.now _ true c.in-Ok.ensures c.if-accepted.true).1 in
-    let in_range : Ranges c.args.r = accepted_ranges c.args.r c.args.number c.args.kind c.args.words.now took in
-    let worded : Worded c.args.r c.args.words.now = accepted_worded c.args.r c.args.number c.args.kind c.args.words.now took in
-    record { n_bound = in_range.few; worded = worded }
+search_told-next-requires c = record { n_bound = (in_range c.args.r c.args.number c.args.kind c.args.words.now _ c.in-Ok.ensures c.if-accepted.true).few; worded = worded c.args.r c.args.number c.args.kind c.args.words.now _ c.in-Ok.ensures c.if-accepted.true }
 
 pub descent_told-told-requires : goal.descent_told-told-requires
-descent_told-told-requires c =
-    let took = (decides c.args.r c.args.number c.args.kind c.args.words.now _ true c.in-Ok.ensures c.if-accepted.true).1 in
-    let in_range : Ranges c.args.r = accepted_ranges c.args.r c.args.number c.args.kind c.args.words.now took in
-    let worded : Worded c.args.r c.args.words.now = accepted_worded c.args.r c.args.number c.args.kind c.args.words.now took in
-    record { n_bound = in_range.few; worded = worded }
+descent_told-told-requires c = record { n_bound = (in_range c.args.r c.args.number c.args.kind c.args.words.now _ c.in-Ok.ensures c.if-accepted.true).few; worded = worded c.args.r c.args.number c.args.kind c.args.words.now _ c.in-Ok.ensures c.if-accepted.true }
 
 pub stores-requires : goal.stores-requires
-stores-requires c =
-    let took = (decides c.args.r c.args.number c.args.kind c.args.words.now _ true c.in-Ok.ensures c.if-accepted.true).1 in
-    let in_range : Ranges c.args.r = accepted_ranges c.args.r c.args.number c.args.kind c.args.words.now took in
-    rw c.gradient_fixed-fixed.ensures in_range.few
+stores-requires c = rw c.gradient_fixed-fixed.ensures (in_range c.args.r c.args.number c.args.kind c.args.words.now _ c.in-Ok.ensures c.if-accepted.true).few
 
-pub updated-model-requires : goal.updated-model-requires
-updated-model-requires c =
-    let took = (decides c.args.r c.args.number c.args.kind c.args.words.now _ true c.in-Ok.ensures c.if-accepted.true).1 in
-    let in_range : Ranges c.args.r = accepted_ranges c.args.r c.args.number c.args.kind c.args.words.now took in
-    record { n_bound = rw c.gradient_fixed-fixed.ensures in_range.few; model_in_range = in_range.model (sym c.gradient_job.ensures ∙ c.if-gradient_job.true) }
+pub updated-q-requires : goal.updated-q-requires
+updated-q-requires c =
+    let h = in_range c.args.r c.args.number c.args.kind c.args.words.now _ c.in-Ok.ensures c.if-accepted.true in
+    record { n_bound = rw c.gradient_fixed-fixed.ensures h.few; model_in_range = h.model (let other = c.in-2 in between c.args.r.job (grind arith) (grind arith)) }
 
 pub settled-next-requires : goal.settled-next-requires
 settled-next-requires c =
     let r = c.args.r in
     let words = c.args.words.now in
     let model_is : c.if-stores.q ≡ with_parts r r.diff r.simplex r.descent (model_of r words) = elim c.if-stores.branch [
-      | then-stores u ↦ u.q-is ∙ ap (λ (m : Model). with_parts r r.diff r.simplex r.descent m) (model_stored r words _ _ c.gradient_fixed-fixed.ensures c.descent_told-told.ensures _ _ c.stores.ensures u.if-stores.true u.updated-model.ensures)
+      | then-stores u ↦ u.q-is ∙ ap (λ (m : Model). with_parts r r.diff r.simplex r.descent m) (model_stored r words _ _ c.gradient_fixed-fixed.ensures c.descent_told-told.ensures _ _ c.stores.ensures u.if-stores.true u.updated-q.ensures)
       | else-stores u ↦ u.q-is ∙ ap (λ (m : Model). with_parts r r.diff r.simplex r.descent m) (model_left r words _ _ c.gradient_fixed-fixed.ensures c.descent_told-told.ensures _ c.stores.ensures u.if-stores.false)
     ] in
-    let took = (decides c.args.r c.args.number c.args.kind c.args.words.now _ true c.in-Ok.ensures c.if-accepted.true).1 in
-    let in_range : Ranges c.args.r = accepted_ranges c.args.r c.args.number c.args.kind c.args.words.now took in
-    record { n_bound = rw c.gradient_fixed-fixed.ensures in_range.few; few_pairs = subst FewPairs (sym (ap (λ (p : Record). p.model) model_is)) (after_few (gradient_fixed_of c.args.r) _ _ (in_range.model (sym c.gradient_job.ensures ∙ c.if-gradient_job.true))) }
+    let h = in_range c.args.r c.args.number c.args.kind c.args.words.now _ c.in-Ok.ensures c.if-accepted.true in
+    record { n_bound = rw c.gradient_fixed-fixed.ensures h.few; few_pairs = subst FewPairs (sym (ap (λ (p : Record). p.model) model_is)) (after_few (gradient_fixed_of c.args.r) _ _ (h.model (let other = c.in-2 in between c.args.r.job (grind arith) (grind arith)))) }
+
+-- an answer of none of the other jobs is one of differences
+differs : (c : In_default) → Other c.args.r
+differs c = elim c.in_default.branch [
+  | in_default-via-then-q-lt1 u ↦ let other = u in beside c.args.r (inl (grind arith))
+  | in_default-via-else-q-lt1+else-q-lt4 u ↦ let other = u in beside c.args.r (inr (grind arith))
+]
 
 pub bounds-words-0 : goal.bounds-words-0
 bounds-words-0 c =
-    let took = (decides c.args.r c.args.number c.args.kind c.args.words.now _ true c.in-Ok.ensures c.if-accepted.true).1 in
-    let worded : Worded c.args.r c.args.words.now = accepted_worded c.args.r c.args.number c.args.kind c.args.words.now took in
-    omega (arith, worded.1 (due_other c.args.r (ne_eqb _ _ c.if-q-eq-SEARCH.false) (sym c.gradient_job.ensures ∙ c.if-gradient_job.false)))
+    let o = differs (goal.at.bounds-words-0 c).In_default in
+    let w = worded c.args.r c.args.number c.args.kind c.args.words.now _ c.in-Ok.ensures c.if-accepted.true in
+    omega (arith, w.1 (due_other c.args.r (ne_eqb _ _ o.search) o.gradient))
 
 pub told-next-requires : goal.told-next-requires
 told-next-requires c =
-    let took = (decides c.args.r c.args.number c.args.kind c.args.words.now _ true c.in-Ok.ensures c.if-accepted.true).1 in
-    let in_range : Ranges c.args.r = accepted_ranges c.args.r c.args.number c.args.kind c.args.words.now took in
-    let is_open : Open c.args.r = accepted_open c.args.r c.args.number c.args.kind c.args.words.now took in
-    omega (arith, is_open.next (record { simplex = c.if-q-eq-SIMPLEX.false; search = c.if-q-eq-SEARCH.false; gradient = sym c.gradient_job.ensures ∙ c.if-gradient_job.false }), in_range.few)
+    let h = in_range c.args.r c.args.number c.args.kind c.args.words.now _ c.in-Ok.ensures c.if-accepted.true in
+    let o = is_open c.args.r c.args.number c.args.kind c.args.words.now _ c.in-Ok.ensures c.if-accepted.true in
+    omega (arith, o.next (differs (goal.at.told-next-requires c).In_default), h.few)
 
-pub overflow_add-q : goal.overflow_add-q
-overflow_add-q c =
-    let r = c.args.r in
-    let words = c.args.words.now in
-    let parts_are : c.if-q-eq-SIMPLEX.q ≡ moved_of r words = elim c.if-q-eq-SIMPLEX.branch [
-      | then-q-eq-SIMPLEX w ↦ w.q-is ∙ simplex_moved r words _ w.if-q-eq-SIMPLEX.true w.simplex_told-next.ensures
-      | else-q-eq-SIMPLEX+then-q-eq-SEARCH w ↦ w.q-is ∙ search_moved r words w.if-q-eq-SIMPLEX.false _ w.if-q-eq-SEARCH.true w.search_told-next.ensures
-      | else-q-eq-SIMPLEX+else-q-eq-SEARCH+then-gradient_job+then-asks w ↦ w.q-is ∙ asking_moved r words w.if-q-eq-SIMPLEX.false w.if-q-eq-SEARCH.false _ w.gradient_job.ensures _ w.if-gradient_job.true w.descent_told-told.ensures (sym w.asks.ensures ∙ w.if-asks.true)
-      | else-q-eq-SIMPLEX+else-q-eq-SEARCH+then-gradient_job+else-asks w ↦
-          let model : w.if-stores.q ≡ with_parts r r.diff r.simplex r.descent (model_of r words) = elim w.if-stores.branch [
-            | then-stores u ↦ u.q-is ∙ ap (λ (m : Model). with_parts r r.diff r.simplex r.descent m) (model_stored r words _ _ w.gradient_fixed-fixed.ensures w.descent_told-told.ensures _ _ w.stores.ensures u.if-stores.true u.updated-model.ensures)
-            | else-stores u ↦ u.q-is ∙ ap (λ (m : Model). with_parts r r.diff r.simplex r.descent m) (model_left r words _ _ w.gradient_fixed-fixed.ensures w.descent_told-told.ensures _ w.stores.ensures u.if-stores.false)
-          ] in
-          w.q-is ∙ descent_moved r words w.if-q-eq-SIMPLEX.false w.if-q-eq-SEARCH.false _ w.gradient_job.ensures w.if-stores.q _ w.if-gradient_job.true model
-          (descent_on r words _ _ w.gradient_fixed-fixed.ensures w.descent_told-told.ensures w.if-stores.q.model _ _ (ap (λ (p : Record). p.model) model) c.counted-counts.ensures w.settled-next.ensures)
-      | else-q-eq-SIMPLEX+else-q-eq-SEARCH+else-gradient_job w ↦ w.q-is ∙ differences_moved r words w.if-q-eq-SIMPLEX.false w.if-q-eq-SEARCH.false _ w.gradient_job.ensures _ w.if-gradient_job.false w.told-next.ensures
-    ] in
-    let took = (decides c.args.r c.args.number c.args.kind c.args.words.now _ true c.in-Ok.ensures c.if-accepted.true).1 in
-    let in_range : Ranges c.args.r = accepted_ranges c.args.r c.args.number c.args.kind c.args.words.now took in
-    omega (arith, ap (λ (p : Record). p.accepted) parts_are ∙ moved_accepted c.args.r c.args.words.now, in_range.numbers)
+pub overflow_add-last : goal.overflow_add-last
+overflow_add-last c = omega (arith, (in_range c.args.r c.args.number c.args.kind c.args.words.now _ c.in-Ok.ensures c.if-accepted.true).numbers)
 
 pub standing-requires : goal.standing-requires
 standing-requires c =
-    let r = c.args.r in
-    let words = c.args.words.now in
-    let kept_is : c.if-accepted.q ≡ kept_of r c.args.number c.args.kind words = elim c.if-accepted.branch [
-      | then-accepted v ↦
-          let parts_are : v.if-q-eq-SIMPLEX.q ≡ moved_of r words = elim v.if-q-eq-SIMPLEX.branch [
-            | then-q-eq-SIMPLEX w ↦ w.q-is ∙ simplex_moved r words _ w.if-q-eq-SIMPLEX.true w.simplex_told-next.ensures
-            | else-q-eq-SIMPLEX+then-q-eq-SEARCH w ↦ w.q-is ∙ search_moved r words w.if-q-eq-SIMPLEX.false _ w.if-q-eq-SEARCH.true w.search_told-next.ensures
-            | else-q-eq-SIMPLEX+else-q-eq-SEARCH+then-gradient_job+then-asks w ↦ w.q-is ∙ asking_moved r words w.if-q-eq-SIMPLEX.false w.if-q-eq-SEARCH.false _ w.gradient_job.ensures _ w.if-gradient_job.true w.descent_told-told.ensures (sym w.asks.ensures ∙ w.if-asks.true)
-            | else-q-eq-SIMPLEX+else-q-eq-SEARCH+then-gradient_job+else-asks w ↦
-                let model : w.if-stores.q ≡ with_parts r r.diff r.simplex r.descent (model_of r words) = elim w.if-stores.branch [
-                  | then-stores u ↦ u.q-is ∙ ap (λ (m : Model). with_parts r r.diff r.simplex r.descent m) (model_stored r words _ _ w.gradient_fixed-fixed.ensures w.descent_told-told.ensures _ _ w.stores.ensures u.if-stores.true u.updated-model.ensures)
-                  | else-stores u ↦ u.q-is ∙ ap (λ (m : Model). with_parts r r.diff r.simplex r.descent m) (model_left r words _ _ w.gradient_fixed-fixed.ensures w.descent_told-told.ensures _ w.stores.ensures u.if-stores.false)
-                ] in
-                w.q-is ∙ descent_moved r words w.if-q-eq-SIMPLEX.false w.if-q-eq-SEARCH.false _ w.gradient_job.ensures w.if-stores.q _ w.if-gradient_job.true model
-                (descent_on r words _ _ w.gradient_fixed-fixed.ensures w.descent_told-told.ensures w.if-stores.q.model _ _ (ap (λ (p : Record). p.model) model) v.counted-counts.ensures w.settled-next.ensures)
-            | else-q-eq-SIMPLEX+else-q-eq-SEARCH+else-gradient_job w ↦ w.q-is ∙ differences_moved r words w.if-q-eq-SIMPLEX.false w.if-q-eq-SEARCH.false _ w.gradient_job.ensures _ w.if-gradient_job.false w.told-next.ensures
-          ] in
-          v.q-is ∙ kept_moved r c.args.number c.args.kind words v.if-q-eq-SIMPLEX.q _ (decides r c.args.number c.args.kind words _ true c.in-Ok.ensures v.if-accepted.true).1 parts_are v.counted-counts.ensures
-      | else-accepted v ↦ v.q-is ∙ kept_left r c.args.number c.args.kind words (decides r c.args.number c.args.kind words _ false c.in-Ok.ensures v.if-accepted.false).1
-    ] in
-    subst Stands (sym kept_is) (kept_stands r c.args.number c.args.kind words (decides r c.args.number c.args.kind words _ _ c.in-Ok.ensures refl).0)
+    let a = c.args in
+    subst Stands (sym (kept_is c)) (kept_stands a.r a.number a.kind a.words.now (decides a.r a.number a.kind a.words.now _ _ c.in-Ok.ensures refl).0)
 
 pub returns : goal.returns
 returns c =
-    let r = c.args.r in
-    let words = c.args.words.now in
-    let kept_is : c.if-accepted.q ≡ kept_of r c.args.number c.args.kind words = elim c.if-accepted.branch [
-      | then-accepted v ↦
-          let parts_are : v.if-q-eq-SIMPLEX.q ≡ moved_of r words = elim v.if-q-eq-SIMPLEX.branch [
-            | then-q-eq-SIMPLEX w ↦ w.q-is ∙ simplex_moved r words _ w.if-q-eq-SIMPLEX.true w.simplex_told-next.ensures
-            | else-q-eq-SIMPLEX+then-q-eq-SEARCH w ↦ w.q-is ∙ search_moved r words w.if-q-eq-SIMPLEX.false _ w.if-q-eq-SEARCH.true w.search_told-next.ensures
-            | else-q-eq-SIMPLEX+else-q-eq-SEARCH+then-gradient_job+then-asks w ↦ w.q-is ∙ asking_moved r words w.if-q-eq-SIMPLEX.false w.if-q-eq-SEARCH.false _ w.gradient_job.ensures _ w.if-gradient_job.true w.descent_told-told.ensures (sym w.asks.ensures ∙ w.if-asks.true)
-            | else-q-eq-SIMPLEX+else-q-eq-SEARCH+then-gradient_job+else-asks w ↦
-                let model : w.if-stores.q ≡ with_parts r r.diff r.simplex r.descent (model_of r words) = elim w.if-stores.branch [
-                  | then-stores u ↦ u.q-is ∙ ap (λ (m : Model). with_parts r r.diff r.simplex r.descent m) (model_stored r words _ _ w.gradient_fixed-fixed.ensures w.descent_told-told.ensures _ _ w.stores.ensures u.if-stores.true u.updated-model.ensures)
-                  | else-stores u ↦ u.q-is ∙ ap (λ (m : Model). with_parts r r.diff r.simplex r.descent m) (model_left r words _ _ w.gradient_fixed-fixed.ensures w.descent_told-told.ensures _ w.stores.ensures u.if-stores.false)
-                ] in
-                w.q-is ∙ descent_moved r words w.if-q-eq-SIMPLEX.false w.if-q-eq-SEARCH.false _ w.gradient_job.ensures w.if-stores.q _ w.if-gradient_job.true model
-                (descent_on r words _ _ w.gradient_fixed-fixed.ensures w.descent_told-told.ensures w.if-stores.q.model _ _ (ap (λ (p : Record). p.model) model) v.counted-counts.ensures w.settled-next.ensures)
-            | else-q-eq-SIMPLEX+else-q-eq-SEARCH+else-gradient_job w ↦ w.q-is ∙ differences_moved r words w.if-q-eq-SIMPLEX.false w.if-q-eq-SEARCH.false _ w.gradient_job.ensures _ w.if-gradient_job.false w.told-next.ensures
-          ] in
-          v.q-is ∙ kept_moved r c.args.number c.args.kind words v.if-q-eq-SIMPLEX.q _ (decides r c.args.number c.args.kind words _ true c.in-Ok.ensures v.if-accepted.true).1 parts_are v.counted-counts.ensures
-      | else-accepted v ↦ v.q-is ∙ kept_left r c.args.number c.args.kind words (decides r c.args.number c.args.kind words _ false c.in-Ok.ensures v.if-accepted.false).1
-    ] in
-    let none = (decides r c.args.number c.args.kind words _ _ c.in-Ok.ensures refl).0 in
-    says_also _ _ _ (says _ _ _ c.answered-2.ensures c.standing.ensures) (rw kept_is (said_of _ _ none) ∙ replies r c.args.number c.args.kind words)
+    let a = c.args in
+    let none = (decides a.r a.number a.kind a.words.now _ _ c.in-Ok.ensures refl).0 in
+    says_also _ _ _ (says _ _ _ c.answered-2.ensures c.standing.ensures) (rw (kept_is (goal.at.returns c).Joined-accepted) (said_of _ _ none) ∙ replies a.r a.number a.kind a.words.now)
 
 pub returns-in-Err : goal.returns-in-Err
 unfolding reply_with reply_of

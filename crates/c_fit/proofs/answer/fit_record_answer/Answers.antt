@@ -3,4 +3,4 @@ use Rattle.c_fit.proofs.Laws.{handed}
 use Rattle.c_fit.proofs.answer.fit_record_answer.Goals as goal
 
 pub returns : goal.returns
-returns c = handed _ _ _ _ c.hand.ensures c.answer-said.ensures
+returns c = handed _ _ _ _ c.into.ensures c.answer.ensures

@@ -4,4 +4,4 @@ use Rattle.c_fit.proofs.Laws.{handed_as, fit_as}
 use Rattle.c_fit.proofs.bfgs.fit_record_bfgs.Goals as goal
 
 pub returns : goal.returns
-returns c = handed_as _ _ _ _ (fit_as bfgs_of _ _ c.into.ensures) c.hand.ensures c.bfgs-said.ensures
+returns c = handed_as _ _ _ _ (fit_as bfgs_of _ _ c.into.ensures) c.into-2.ensures c.bfgs.ensures

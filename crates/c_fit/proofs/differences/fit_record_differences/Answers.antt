@@ -3,4 +3,4 @@ use Rattle.c_fit.proofs.Laws.{handed}
 use Rattle.c_fit.proofs.differences.fit_record_differences.Goals as goal
 
 pub returns : goal.returns
-returns c = handed _ _ _ _ c.hand.ensures c.differences-said.ensures
+returns c = handed _ _ _ _ c.into.ensures c.differences.ensures

@@ -4,4 +4,4 @@ use Rattle.c_fit.proofs.Laws.{handed_as, fit_as}
 use Rattle.c_fit.proofs.simplex.fit_record_simplex.Goals as goal
 
 pub returns : goal.returns
-returns c = handed_as _ _ _ _ (fit_as simplex_of _ _ c.into.ensures) c.hand.ensures c.simplex-said.ensures
+returns c = handed_as _ _ _ _ (fit_as simplex_of _ _ c.into.ensures) c.into-2.ensures c.simplex.ensures

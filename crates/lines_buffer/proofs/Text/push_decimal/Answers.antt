@@ -6,9 +6,9 @@ use Rattle.lines_buffer.proofs.Text.push_decimal.Goals as goal
 
 pub returns-clause-text : goal.returns-clause-text
 unfolding decimal_text
-returns-clause-text c = c.push_digits.ensures ∙ ap (λ (k : ℕ). c.args.self.now ++ numeral 10 k c.args.n) c.places.ensures.0
+returns-clause-text g c = c.push_digits.ensures ∙ ap (λ (k : ℕ). c.args.self.now ++ numeral 10 k c.args.n) c.places.ensures.0
 
 pub returns-clause-room : goal.returns-clause-room
-returns-clause-room c =
+returns-clause-room g c =
     let k = c.places.result in
     rw c.push_digits.ensures (omega (arith, length-append c.args.self.now (numeral 10 k c.args.n), length_numeral 10 k c.args.n, c.places.ensures.1))

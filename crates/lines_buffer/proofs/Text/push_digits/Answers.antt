@@ -5,4 +5,4 @@ use Rattle.lines_buffer.proofs.Digits.{length_numeral}
 use Rattle.lines_buffer.proofs.Text.push_digits.Goals as goal
 
 pub returns : goal.returns
-returns c = search (rules, overwrites, length_numeral)
+returns g c = search (rules, overwrites, length_numeral)

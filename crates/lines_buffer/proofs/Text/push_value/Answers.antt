@@ -6,10 +6,10 @@ use Rattle.lines_buffer.proofs.Text.push_value.Goals as goal
 
 pub returns-clause-text : goal.returns-clause-text
 unfolding value_text
-returns-clause-text c = rw (c.push_digits.ensures, c.push.ensures, c.bits.ensures) (append_assoc c.args.self.now (32 ∷ []) _)
+returns-clause-text g c = rw (c.push_digits.ensures, c.push.ensures, c.bits.ensures) (append_assoc c.args.self.now (32 ∷ []) _)
 
 pub returns-clause-room : goal.returns-clause-room
-returns-clause-room c =
+returns-clause-room g c =
     let digits = length-append c.push.new.self (numeral 16 16 c.bits.result) in
     let space = length-append c.args.self.now (32 ∷ []) in
     ap length c.push_digits.ensures ∙ omega (arith, digits, space, ap length c.push.ensures, length_numeral 16 16 c.bits.result)

@@ -29,7 +29,7 @@ pub returns-in-Rests : goal.returns-in-Rests
 returns-in-Rests c = comes (goal.at.returns-in-Rests c).Joined-self Rests c.in-Rests.is
 
 pub returns-in-Asks : goal.returns-in-Asks
-returns-in-Asks c = rw (c.phase.ensures, c.vertex.ensures, c.point-x.ensures) (comes (goal.at.returns-in-Asks c).Joined-self (Asks c.in-Asks.ask) c.in-Asks.is)
+returns-in-Asks c = rw (c.phase.ensures, c.vertex.ensures, c.point-self.ensures) (comes (goal.at.returns-in-Asks c).Joined-self (Asks c.in-Asks.ask) c.in-Asks.is)
 
 pub returns-then-not-any_finite : goal.returns-then-not-any_finite
 returns-then-not-any_finite c =

@@ -5,4 +5,4 @@ use Rattle.quasinewton_model.proofs.Model.blank.Goals as goal
 
 pub returns : goal.returns
 unfolding blank_of of_bits
-returns c = rw (← c.no_pairs-pairs.ensures)
+returns c = rw (← c.no_pairs.ensures)

@@ -1,5 +1,0 @@
--- `c_api::fit_min` meets its contract: each return follows the calls and tests that led to it. Assumes nothing.
-use Rattle.c_api.proofs.fit_min.Goals as goal
-
-pub returns : goal.returns
-returns c = rw (← c.min.ensures)
