@@ -38,12 +38,20 @@ def run(name):
     if own.pending() and (unproved := own.control()):
         sys.exit(f"{name}: an unchanged copy of a function is not proved: {own.room}/log: {unproved}")
     while pending := own.pending():
-        for k in range(0, len(pending), crates.TOGETHER):
-            began, chosen = time.time(), pending[k : k + crates.TOGETHER]
-            found = own.try_together(chosen)
+        done = 0
+        for chosen in runs(pending):
+            began, done = time.time(), done + len(chosen)
+            found = own.try_in_place(chosen[0]) if chosen[0][0].item.lone else own.try_together(chosen)
             faults += found
-            print(f"{name}: {k + len(chosen)} of {len(pending)} mutants, {time.time() - began:.0f} s", *found, flush=True)
+            print(f"{name}: {done} of {len(pending)} mutants, {time.time() - began:.0f} s", *found, flush=True)
     return faults
+
+
+def runs(pending):
+    """What is tried in each run: many mutants beside their functions, or one where its function stands."""
+    beside = [trial for trial in pending if not trial[0].item.lone]
+    yield from (beside[k : k + crates.TOGETHER] for k in range(0, len(beside), crates.TOGETHER))
+    yield from ([trial] for trial in pending if trial[0].item.lone)
 
 
 def sampled(own, count):

@@ -4,6 +4,7 @@ import json
 import pathlib
 import re
 
+import items
 import sites
 import trials
 
@@ -52,12 +53,11 @@ class Crate:
     def __init__(self, name):
         self.name, self.room, self.copy = name, trials.ROOM / name, trials.COPIES / name
         self.results_file, self.stamp = self.room / "results", stamp_of(name)
-        self.texts, self.sites, self.functions = {}, [], {}
-        for path in sorted(pathlib.Path("crates", name, "src").glob("*.rt")):
-            prefix = f"{name}::" if path.name == "lib.rt" else f"{name}::{path.stem}::"
-            text = self.texts[path.name] = path.read_text()
-            self.sites += sites.sites_of(path.name, prefix, text, used_constants(name, text))
-            self.functions.update({f: (path.name, item) for f, item in sites.functions_of(prefix, text).items()})
+        self.texts, self.sites = items.texts_of(name), []
+        self.functions = items.functions_in(name, self.texts)
+        for file, text in self.texts.items():
+            own = {function: item for function, (place, item) in self.functions.items() if place == file}
+            self.sites += sites.sites_of(file, text, own, used_constants(name, text))
         if len({site.key() for site in self.sites}) != len(self.sites):
             raise ValueError(f"{name}: two sites of one name")
 
@@ -125,7 +125,7 @@ class Crate:
         lines = []
         for trial in chosen:
             site, which = trial
-            text = sites.copied(self.texts[site.file], site.function, site.item, self.copy_name(trial), site, which)
+            text = sites.copied(self.texts[site.file], site.item, self.copy_name(trial), site, which)
             lines.append(self.add(where, site.file, "\n".join([*site.needed(which), text])))
         return lines
 
@@ -137,11 +137,13 @@ class Crate:
             copy_proof(self.name, where, function, copy, other)
 
     def write_controls(self, where):
-        """An unchanged copy of each function beside it."""
+        """An unchanged copy of each function beside it, where one may stand there. Returns the functions that have one."""
         trials.fresh(self.name, where)
-        for function, (file, item) in self.functions.items():
-            self.add(where, file, sites.copied(self.texts[file], function, item, function + "_c"))
+        beside = {function: own for function, own in self.functions.items() if not own[1].lone}
+        for function, (file, item) in beside.items():
+            self.add(where, file, sites.copied(self.texts[file], item, function + "_c"))
             copy_proof(self.name, where, function, function + "_c", {})
+        return beside
 
     def against(self, said, functions):
         """What the prover said against functions that are to be proved."""
@@ -151,10 +153,11 @@ class Crate:
     def judged(self, said, function, file, span, goals):
         """The verdict on a mutant that is this function, on these lines of a file, and its reason. `goals` are those of the function
         that it was made of: one that nothing proves shows something if it is among them, or if no error says that names are gone."""
-        line = said.lines.get(function, "no line")
-        if line == "proved":
+        line, closures = said.lines.get(function, "no line"), trials.closures(said, function)
+        if line == "proved" and all(said.lines[closure].startswith("proved") for closure in closures):
             return STANDS, ""
-        errors = [error for error in said.errors.get(function, []) if not trials.FOLLOWS.search(error[1])]
+        errors = [error for own in (function, *closures) for error in said.errors.get(own, [])]
+        errors = [error for error in errors if not trials.FOLLOWS.search(error[1])]
         facts = [f"{place}: {message}" for place, message in errors if not trials.SHAPE.search(message)]
         for place, at, words, goal in said.open:
             if place == f"src/{file}" and at in span and (not errors or goal.split("-clause-")[0] in goals):
@@ -174,10 +177,10 @@ class Crate:
 
     def control(self):
         """Whether each function's unchanged copy is proved, so that a mutant is refused for its change."""
-        self.write_controls(self.copy)
+        beside = self.write_controls(self.copy)
         said = trials.run(self.name, self.copy, "--incremental", str(self.copy / "inc"))
         self.record(seconds=round(said.seconds, 2))
-        return self.against(said, [f + end for f in self.functions for end in ("", "_c")])
+        return self.against(said, [*self.functions, *(function + "_c" for function in beside)])
 
     def tried_alone(self, trial):
         """A mutant by itself, in its function's place and from nothing: the verdict, its reason, whether the crate is proved, seconds."""
@@ -186,10 +189,17 @@ class Crate:
         if refused:
             return FRONT, "".join(message for _, _, message in refused.stray[:1]), False, 0.0
         said = trials.run(self.name, where)
-        begin, _, end = site.item
-        first = self.texts[site.file].count("\n", 0, begin) + 1
-        span = range(first, self.texts[site.file].count("\n", 0, end) + 2)
+        first = self.texts[site.file].count("\n", 0, site.item.start) + 1
+        span = range(first, self.texts[site.file].count("\n", 0, site.item.end) + 2)
         return *self.judged(said, site.function, site.file, span, goals), said.proved, said.seconds
+
+    def try_in_place(self, trial):
+        """A mutant of a function that no copy may stand beside, by itself, and a record of it. A fault where the crate is not proved
+        just as the mutant is."""
+        verdict, reason, proved, seconds = self.tried_alone(trial)
+        self.record(seconds=round(seconds, 2))
+        self.note(trial, verdict, reason)
+        return [] if proved == (verdict == STANDS) else [f"{trial[0].key()}: {verdict}, and proved is {proved}: {reason}"]
 
     def try_together(self, chosen):
         """One run, and a record of each trial. Where the front end refuses some of them, the others are tried without those."""

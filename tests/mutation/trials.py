@@ -111,6 +111,11 @@ def read(crate, where, log):
     return said
 
 
+def closures(said, function):
+    """What the prover has of a function's closures, each under a name of its own: those of `f` in a file `a` are `a::fn::f::..`."""
+    return [name for name in said.lines if "::fn::" in name and name.replace("::fn::", "::", 1).startswith(function + "::")]
+
+
 def own_error(said, function):
     """The first error of a function that does not merely follow from another's refusal."""
     for place, message in said.errors.get(function, []):
