@@ -11,7 +11,8 @@ there, where a line is of no edit, and where an edit
   the goals of the function with the edit in it, and an answer of its proof must then be to none of them.
 --edits needs no log: it fails where a text that an edit is to replace does not stand once in its file. --table prints the edits as
 a table, which docs/MUST-FAIL.md holds; with a log and with --edits it also fails where that table is not the one in
-docs/MUST-FAIL.md. --self-test gives it words for each of these ways, and fails where a fault is not seen.
+docs/MUST-FAIL.md. --self-test gives it words for each of these ways, and fails where a fault is not seen, or where answers of a
+proof are found from no line of src/.
 """
 import functools
 import json
@@ -22,6 +23,10 @@ import subprocess
 import sys
 import tempfile
 
+sys.dont_write_bytecode = True
+sys.path.insert(0, str(pathlib.Path(__file__).resolve().parent / "mutation"))
+import items  # noqa: E402
+
 TABLE = pathlib.Path("docs/MUST-FAIL.md")
 PARTS = ("src", "specs", "proofs")
 # What rt says of an edit, and of a file that it takes for none.
@@ -30,8 +35,6 @@ STRAY = re.compile(r"rt: (\S*must-fail/\S+): (BAD EDIT.*)")
 REFUSED = "refused, as it must be"
 # Where a refusal begins with a goal that nothing proves: its file, its line, and its name, of which rt may cut the end off.
 OPEN = re.compile(r": note: (?:\./)?src/([\w/]+)\.rt:(\d+):\d+: it is not proved .*?\(`([^`\s]+)(`\)|`?$)")
-FUNCTION = re.compile(r'^ *(?:pub )?(?:const )?(?:extern "C" )?fn (\w+)')
-BLOCK = re.compile(r"^(?:impl(?:<.*>)? (?:.* for )?|trait |pub trait )(\w+)")
 ANSWER = re.compile(r"(?m)^(?:abbrev )?(?:pub )?(\S+) : goal\.")
 # Words that rt has of an edit, and those of the fault that is due; none of a refusal for a fact.
 WAYS = [
@@ -102,18 +105,19 @@ def edited(crate, pairs):
         return goals(copies, crate)
 
 
+@functools.cache
+def functions(crate):
+    """Each file of a crate's src/ with its functions: of each its path below the crate, and its places there."""
+    texts = items.texts_of(crate)
+    found = [(path.split("::", 1)[1], *own) for path, own in items.functions_in(crate, texts).items()]
+    return {file: (text, [(path, it) for path, place, it in found if place == file]) for file, text in texts.items()}
+
+
 def enclosing(crate, module, line):
     """The function that a line of a file of src/ stands in, as its path below the crate."""
-    text = pathlib.Path("crates", crate, "src", f"{module}.rt").read_text().split("\n")
-    while text[line - 1].lstrip().startswith("#["):
-        line += 1
-    owner, name = "", None
-    for it in text[:line]:
-        block, found = BLOCK.match(it), FUNCTION.match(it)
-        owner = block[1] + "::" if block else "" if it == "}" else owner
-        name = owner + found[1] if found else name
-    prefix = "" if module in ("lib", "main") else module.replace("/", "::") + "::"
-    return prefix + name if name else None
+    text, found = functions(crate)[f"{module}.rt"]
+    end = len("\n".join(text.split("\n")[:line]))
+    return next((path for path, it in reversed(found) if it.start < end), None)
 
 
 def renamed(crate, pairs, words):
@@ -167,6 +171,16 @@ def unseen():
     return [f"not seen, or seen where it is not: {due or 'a fact'}" for due, found in faults if bool(found) != bool(due) or due not in "".join(found)]
 
 
+def unowned():
+    """The folders of proofs/ with answers that are of no line of src/: a refusal there would not be looked up."""
+    out = []
+    for crate in sorted({path.parts[1] for path in pathlib.Path("crates").glob("*/proofs")}):
+        found = {enclosing(crate, file[:-3], k + 1) for file, (text, _) in functions(crate).items() for k in range(text.count("\n"))}
+        folders = pathlib.Path("crates", crate, "proofs").glob("*/**/Answers.antt")
+        out += [str(it.parent) for it in folders if "::".join(it.parent.parts[3:]) not in found]
+    return out
+
+
 def table(rows):
     lines = [
         "# Must-fail edits",
@@ -197,8 +211,9 @@ def main():
     if len(words) != 1 or (words[0].startswith("-") and words[0] not in ("--edits", "--table", "--self-test")):
         sys.exit(__doc__)
     if words == ["--self-test"]:
-        print(*(found := unseen()), f"{len(WAYS)} ways, {len(found)} not seen", sep="\n")
-        return 1 if found else 0
+        found, strays = unseen(), [f"of no function: {folder}" for folder in unowned()]
+        print(*found, *strays, f"{len(WAYS)} ways, {len(found)} not seen", sep="\n")
+        return 1 if found or strays else 0
     rows = list(edits())
     if words == ["--table"]:
         sys.stdout.write(table(rows))
