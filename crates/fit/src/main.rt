@@ -112,8 +112,7 @@ fn run<R: Read, W: Write>(input: &mut R, output: &mut W) -> Result<(), End>
             }
             Ok(n) => place = fed_part(output, place, &buf[..n])?,
         }
-        // One form is asked for, by its equality: a match would have a second arm that does nothing.
-        if place.state.due == Form::Stopped {
+        if let Form::Stopped = place.state.due {
             return Ok(());
         }
     }

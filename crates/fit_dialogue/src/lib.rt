@@ -30,13 +30,13 @@ pub struct Step {
     pub place: Place,
 }
 
-// What a line brings, in every state. After the stop it brings nothing.
+// What a line brings, in every state. After the stop, or where what is due is no line, it brings nothing.
 #[tactic(auto, unfolding(crate::specs::Talk::decided_of))]
 pub fn decided(out: &mut [u8; 512], s: State, l: LineRead) -> Turn
     ensures { Turned (decided_of s l) out.old out.new result }
 {
     match s.due {
-        Form::Stopped => Turn { count: 0, state: s },
+        Form::Stopped | Form::Other(_) => Turn { count: 0, state: s },
         Form::Line1 => first(out, s, l),
         Form::SimplexLine2 => second(out, s, l),
         Form::GradientLine2 => second_gradient(out, s, l),

@@ -1,5 +1,5 @@
 -- The state of the fit program between two lines, and what several lines share. Definitions only.
-use Rattle.std.specs.Prelude.{ℕ, ◌+◌, ◌≡◌, true, false, cond, List, [], ◌∷◌, length, min, eqb, None, Float}
+use Rattle.std.specs.Prelude.{ℕ, ◌+◌, ◌≡◌, true, false, cond, List, [], ◌∷◌, length, min, eqb, ltb, None, Float}
 use Rattle.protocol.specs.Protocol.{Reply, simplex_mark, bfgs_mark}
 use Rattle.optim_record.specs.declared.Record.{Record}
 use Rattle.optim_record.specs.Record.{blank_of, no_options, wolfe_options_of, no_gradient_options}
@@ -34,7 +34,7 @@ begun_of =
 
 -- the number of the next line; an input of 2^64 lines is not to be had, and the number stays there
 abbrev pub following_of : ℕ → ℕ
-following_of number = min (number + 1) most
+following_of number = cond (ltb number most) (number + 1) number
 
 -- after a line that is not bad: a line of another form is due, the next in number
 abbrev pub onward_of : State → Form → State

@@ -8,7 +8,7 @@ ghost use Rattle.lines_options.specs.Options.{simplex_line_of, gradient_line_of}
 pub use lines_field::{Field, Reading};
 pub use lines_forms::{AnswerLine, FirstLine, answer_line, first_line, point_line};
 use lines_forms::{whole, words};
-pub use lines_reader::{LineRead, Reader};
+pub use lines_reader::{Form, LineRead, Reader};
 use protocol::{Allowances, GradientOptions, SimplexOptions, WolfeOptions};
 
 // Line 2 of simplex: x_tol f_tol initial_step max_iter max_fevals restarts adaptive.

@@ -5,7 +5,7 @@ use Rattle.lines_field.specs.declared.Shape.TheVariants.{Word, Decimal, Maybe, F
 use Rattle.lines_field.specs.declared.Reading.{Reading}
 use Rattle.lines_field.specs.Shapes.{most, malformed, fits, field_as}
 use Rattle.lines_reader.specs.declared.Form.{Form}
-use Rattle.lines_reader.specs.declared.Form.TheVariants.{Stopped, Line1, SimplexLine2, GradientLine2, Line3, Answers}
+use Rattle.lines_reader.specs.declared.Form.TheVariants.{Stopped, Line1, SimplexLine2, GradientLine2, Line3, Answers, Other}
 use Rattle.lines_reader.specs.declared.LineRead.{LineRead}
 
 -- ---- fields
@@ -20,7 +20,28 @@ fields bs = fields_from [] bs
 
 -- ---- lines
 
--- The shape of the field at i of a line; at a line that is not due there is to be none. The forms are, in this order,
+-- The form that a number is: none is due at 0, then lines 1, 2, 2, 3 and answers; any other number is no line's
+unfoldable pub form_of : ℕ → Form
+form_of k =
+    cond (eqb k 0) Stopped
+    (cond (eqb k 1) Line1
+    (cond (eqb k 2) SimplexLine2
+    (cond (eqb k 3) GradientLine2
+    (cond (eqb k 4) Line3
+    (cond (eqb k 5) Answers
+    (Other k))))))
+
+-- and the number of a form
+abbrev pub number_of : Form → ℕ
+number_of Stopped = 0
+number_of Line1 = 1
+number_of SimplexLine2 = 2
+number_of GradientLine2 = 3
+number_of Line3 = 4
+number_of Answers = 5
+number_of (Other k) = k
+
+-- The shape of the field at i of a line; at a line that is not due, or is none, there is to be none. The forms are, in this order,
 -- "Line 1: `simplex`, `bfgs` or `lbfgs`, and n.";
 -- "Line 2, simplex: x_tol f_tol initial_step as bits, max_iter max_fevals (`-` absent), restarts, adaptive (0 or 1)";
 -- "others: grad_tol f_tol x_tol c1 c2 step_max as bits, max_iter max_fevals max_evals memory, gradients (0 or 1).";
@@ -31,6 +52,7 @@ shape_at_of Line1 i = get_or (Job ∷ Decimal ∷ []) i Nothing
 shape_at_of SimplexLine2 i = get_or (Word ∷ Word ∷ Word ∷ Maybe ∷ Maybe ∷ Decimal ∷ Flag ∷ []) i Nothing
 shape_at_of GradientLine2 i = get_or (Word ∷ Word ∷ Word ∷ Word ∷ Word ∷ Word ∷ Maybe ∷ Maybe ∷ Decimal ∷ Decimal ∷ Flag ∷ []) i Nothing
 shape_at_of Line3 i = Word
+shape_at_of (Other k) i = Nothing
 shape_at_of Answers i = cond (ltb i 2) (get_or (Decimal ∷ Letter ∷ []) i Nothing) Word
 
 -- what fields are, of which the first stands at i

@@ -1,5 +1,5 @@
 -- What each function of the reader makes, for every struct that it is given. Definitions only.
-use Rattle.std.specs.Prelude.{ℕ, ◌+◌, Bool, true, false, ◌&&◌, ◌||◌, not, cond, List, [], ◌∷◌, set, replicate, min, eqb, ltb}
+use Rattle.std.specs.Prelude.{ℕ, ◌+◌, Bool, true, false, ◌&&◌, ◌||◌, not, cond, List, [], ◌∷◌, set, replicate, eqb, ltb}
 use Rattle.lines_field.specs.declared.Field.{Field}
 use Rattle.lines_field.specs.declared.Reading.{Reading}
 use Rattle.lines_field.specs.Shapes.{most, malformed, fits}
@@ -13,7 +13,7 @@ use Rattle.lines_reader.specs.Forms.{shape_at_of}
 
 -- counts stop at the largest u64
 abbrev pub one_more_of : ℕ → ℕ
-one_more_of n = min (n + 1) most
+one_more_of n = cond (ltb n most) (n + 1) n
 
 -- the first twenty are kept
 unfoldable pub kept_of : List Reading → ℕ → Reading → List Reading

@@ -5,12 +5,13 @@
 
 ghost use Rattle.std.specs.Prelude.{◌≡◌, get_or};
 ghost use Rattle.lines_field.specs.declared.Shape.TheVariants.{Nothing};
-ghost use Rattle.lines_reader.specs.Forms.{shape_at_of};
+ghost use Rattle.lines_reader.specs.Forms.{form_of, number_of, shape_at_of};
 ghost use Rattle.lines_reader.specs.Reader.{kept_of, fresh_line_of, taken_of, started_of, fed_of, finished_of, begun_of};
 
 use lines_field::{Field, Reading, Shape};
 
-// As which line it is read: none is due, line 1, line 2 of simplex, line 2 of bfgs and lbfgs, line 3, an answer.
+// As which line it is read: none is due, line 1, line 2 of simplex, line 2 of bfgs and lbfgs, line 3, an answer. Whoever keeps
+// the form as a number may have any: one past these six is `Other`, which is read as no line, and keeps its number.
 #[derive(Clone, Copy, PartialEq, Eq)]
 pub enum Form {
     Stopped,
@@ -19,6 +20,42 @@ pub enum Form {
     GradientLine2,
     Line3,
     Answers,
+    Other(u64),
+}
+
+// The form that a number is, in the order above from 0 on.
+#[tactic(auto, unfolding(crate::specs::Forms::form_of))]
+impl From<u64> for Form {
+    ghost from_gives = { λ k f. f ≡ form_of k };
+
+    fn from(k: u64) -> Form {
+        match k {
+            0 => Form::Stopped,
+            1 => Form::Line1,
+            2 => Form::SimplexLine2,
+            3 => Form::GradientLine2,
+            4 => Form::Line3,
+            5 => Form::Answers,
+            _ => Form::Other(k),
+        }
+    }
+}
+
+// The number of a form.
+impl From<Form> for u64 {
+    ghost from_gives = { λ f k. k ≡ number_of f };
+
+    fn from(f: Form) -> u64 {
+        match f {
+            Form::Stopped => 0,
+            Form::Line1 => 1,
+            Form::SimplexLine2 => 2,
+            Form::GradientLine2 => 3,
+            Form::Line3 => 4,
+            Form::Answers => 5,
+            Form::Other(k) => k,
+        }
+    }
 }
 
 // The shapes of the fields of lines 1 and 2.
@@ -61,7 +98,7 @@ fn shape_at(form: Form, i: usize) -> Shape
     ensures { result ≡ shape_at_of form i }
 {
     match form {
-        Form::Stopped => Shape::Nothing,
+        Form::Stopped | Form::Other(_) => Shape::Nothing,
         Form::Line1 => listed(&LINE1_SHAPES, i),
         Form::SimplexLine2 => listed(&SIMPLEX_SHAPES, i),
         Form::GradientLine2 => listed(&GRADIENT_SHAPES, i),

@@ -1,5 +1,5 @@
 -- The reader and the forms agree: a line's bytes, fed one by one, give what the definition says of the whole line. Assumes nothing.
-use Prim.Native.Nat.{ℕ, zero, suc, ◌+◌, ◌≤◌, ◌<◌}
+use Prim.Native.Nat.{ℕ, zero, suc, min, ◌+◌, ◌≤◌, ◌<◌}
 use mathlib.Core.Path.{◌≡◌, refl, sym, ap, ◌∙◌}
 use mathlib.Core.Bool.{Bool, true, false, ◌&&◌, ◌||◌, not}
 use mathlib.Core.List.{List, [], ◌∷◌, ◌++◌, append_assoc, append-nil}
@@ -14,7 +14,7 @@ use Rattle.lines_field.specs.declared.Reading.{Reading}
 use Rattle.lines_field.specs.declared.Shape.{Shape}
 use Rattle.lines_field.specs.declared.Shape.TheVariants.{Word, Decimal, Maybe, Flag, Job, Nothing}
 use Rattle.lines_reader.specs.declared.Form.{Form}
-use Rattle.lines_reader.specs.declared.Form.TheVariants.{Stopped, Line1, SimplexLine2, GradientLine2, Line3, Answers}
+use Rattle.lines_reader.specs.declared.Form.TheVariants.{Stopped, Line1, SimplexLine2, GradientLine2, Line3, Answers, Other}
 use Rattle.lines_reader.specs.declared.LineRead.{LineRead}
 use Rattle.lines_reader.specs.declared.Reader.{Reader}
 use Rattle.lines_field.specs.Shapes.{most, fits, field_as}
@@ -59,8 +59,14 @@ and_assoc false b c = refl
 abbrev held : Form → List Reading → Bool → LineRead
 held form vs e = record { form = form; count = capped (length vs); ok = all_ok vs; empty = e; fields = firsts 20 vs }
 
+one_more_is : (n : ℕ) → n ≤ most → one_more_of n ≡ min (n + 1) most
+one_more_is n h =
+    by (ltb n most)
+    (λ p. rw p (omega (arith, ltb-true n most p)))
+    (λ p. rw p (omega (arith, h, ltb-false n most p)))
+
 more_capped : (n : ℕ) → one_more_of (capped n) ≡ capped (n + 1)
-more_capped n = omega arith
+more_capped n = one_more_is (capped n) (omega arith) ∙ omega arith
 
 -- counts that are told apart are told apart below the largest u64
 pub capped_is : (m n : ℕ) → n < most → eqb (capped m) n ≡ eqb m n
@@ -77,6 +83,7 @@ far xs i j h k = get_or-eq_default xs Nothing {n = i} h ∙ sym (get_or-eq_defau
 far_kind : (form : Form) (i j : ℕ) → 11 ≤ i → 11 ≤ j → shape_at_of form i ≡ shape_at_of form j
 unfolding shape_at_of
 far_kind Stopped i j h k = refl
+far_kind (Other m) i j h k = refl
 far_kind Line1 i j h k = far (Job ∷ Decimal ∷ []) i j (omega arith) (omega arith)
 far_kind SimplexLine2 i j h k = far (Word ∷ Word ∷ Word ∷ Maybe ∷ Maybe ∷ Decimal ∷ Flag ∷ []) i j (omega arith) (omega arith)
 far_kind GradientLine2 i j h k = far (Word ∷ Word ∷ Word ∷ Word ∷ Word ∷ Word ∷ Maybe ∷ Maybe ∷ Decimal ∷ Decimal ∷ Flag ∷ []) i j (omega arith) (omega arith)
@@ -199,7 +206,9 @@ begun_more : (r : Reader) (b : ℕ) → begun_of (fed_of r b) ≡ true
 unfolding fed_of begun_of taken_of added_of
 begun_more r b =
     by (eqb b 32)
-    (λ p. rw (p, ne_eqb (one_more_of r.line.count) 0 (λ e. omega arith)))
+    (λ p.
+    let some : one_more_of r.line.count ≡ 0 → ⊥ = λ e. by (ltb r.line.count most) (λ s. omega (arith, rw s at e)) (λ s. omega (arith, rw s at e, ltb-false r.line.count most s)) in
+    rw (p, ne_eqb (one_more_of r.line.count) 0 some))
     (λ p.
     let some : lengthened_of r.field.size ≡ 0 → ⊥ = λ e. by (ltb r.field.size 17) (λ s. omega (arith, rw s at e)) (λ s. omega (arith, rw s at e, ltb-false r.field.size 17 s)) in
     rw (p, ne_eqb (lengthened_of r.field.size) 0 some) (or_true (not (eqb r.line.count 0))))

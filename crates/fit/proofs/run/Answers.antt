@@ -1,7 +1,5 @@
 -- `fit::run` meets its contract: each exit says what is due of what was read. Assumes nothing.
-use Rattle.std.proofs.Common.{refl, sym, ◌∙◌, arith, rules, true, false}
-use denote.Enum.Bare.{same_true}
-use Rattle.lines_reader.specs.contracts.Form.{the_type}
+use Rattle.std.proofs.Common.{refl, ◌∙◌, arith, true, false}
 use Rattle.fit.proofs.Runs.{begun, part_more, part_lost, stop_due, end_due}
 use Rattle.fit.proofs.run.Goals as goal
 
@@ -24,11 +22,11 @@ pub returns-in_err-place-in-Ok-clause-lost : goal.returns-in_err-place-in-Ok-cla
 returns-in_err-place-in-Ok-clause-lost g c =
     λ _. part_lost _ _ _ _ _ _ _ _ c.loop.invariant.1 c.in-Ok.ensures.bytes.0 c.in_err-place-in-Ok.ensures.replies
 
-pub returns-then-eq-clause-whole : goal.returns-then-eq-clause-whole
-returns-then-eq-clause-whole g c =
+pub returns-in-Stopped-clause-whole : goal.returns-in-Stopped-clause-whole
+returns-in-Stopped-clause-whole g c =
     let fed = c.in_ok-place-in-Ok.ensures in
     let went = part_more _ _ _ _ _ _ _ _ _ c.loop.invariant.1 c.in-Ok.ensures.bytes.0 fed.place fed.replies in
-    stop_due _ _ _ _ _ went (same_true the_type (search rules) _ _ (sym c.if-eq.ensures))
+    stop_due _ _ _ _ _ went c.in-Stopped.is
 
 pub loop-preserved : goal.loop-preserved
 loop-preserved g c =
