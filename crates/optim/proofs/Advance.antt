@@ -1,14 +1,13 @@
 -- The record after an answer that is accepted, part by part, and the reply by the refusal that an answer meets. Assumes nothing.
-use Prim.Native.Nat.{ℕ, ◌+◌, ◌<◌}
+use Prim.Native.Nat.{ℕ, ◌+◌}
 use mathlib.Core.Path.{◌≡◌, refl, sym, ap, ◌∙◌}
 use mathlib.Core.Bool.{Bool, true, false, not, cond, true≢false}
 use mathlib.Core.List.{List}
-use mathlib.Core.Logic.{◌⊎◌, inl, inr}
 use native.Mathlib.Omega.{arith}
 use lib.Dec.{eqb}
 use lib.ListN.{length, get_or}
 use lib.Ieee.{Float, nan}
-use borrow.Author.Tests.{eqb-true, eqb-false, eq-eqb, ne_eqb}
+use borrow.Author.Tests.{eqb-true, eq-eqb, ne_eqb}
 use Rattle.vector.specs.Points.{from_slice_of}
 use Rattle.objective.specs.declared.Differences.{Differences}
 use Rattle.objective.specs.Step.{told_of}
@@ -18,7 +17,7 @@ use Rattle.quasinewton_record.specs.declared.Fixed.{Fixed}
 use Rattle.quasinewton.specs.Step.{asks_of, stores_pair_of, updated_of, model_after_of, onward_of}
 use Rattle.quasinewton.proofs.Parts.{settled_parts}
 use Rattle.neldermead.specs.declared.Simplex.{Simplex}
-use Rattle.protocol.specs.Protocol.{Reply, simplex_mark, bfgs_mark, lbfgs_mark, search_mark}
+use Rattle.protocol.specs.Protocol.{Reply, simplex_mark, search_mark}
 use Rattle.optim_record.specs.declared.Counts.{Counts}
 use Rattle.optim_record.specs.declared.Record.{Record}
 use Rattle.optim_record.specs.Record.{gradient_fixed_of, gradient_job_of, valid_of, Other, Ranges, Open, Stands}
@@ -128,22 +127,6 @@ module _ (r : Record) (words : List Float) where
 
   pub differences_moved : Other r → (q : Differences) → q ≡ told_of r.diff (get_or words 0 nan) → with_parts r q r.simplex r.descent r.model ≡ moved_of r words
   differences_moved o q f = rw (ne_eqb _ _ o.simplex, ne_eqb _ _ o.search, o.gradient, f)
-
--- the jobs between simplex and search are gradient fits, and none below or above is
-pub between : (j : ℕ) → simplex_mark < j → j < search_mark → gradient_job_of j ≡ true
-unfolding gradient_job_of
-between j l m = go (eqb j bfgs_mark) refl
-  where
-    go : (b : Bool) → eqb j bfgs_mark ≡ b → cond b true (eqb j lbfgs_mark) ≡ true
-    go true e = refl
-    go false e = let d = eqb-false _ _ e in eq-eqb _ _ (omega arith)
-
-pub beside : (r : Record) → (r.job < simplex_mark) ⊎ (search_mark < r.job) → Other r
-unfolding gradient_job_of
-beside r (inl l) =
-    record { simplex = λ e. omega (arith, l, e); search = λ e. omega (arith, l, e); gradient = rw (ne_eqb r.job bfgs_mark (λ e. omega (arith, l, e))) (ne_eqb r.job lbfgs_mark (λ e. omega (arith, l, e))) }
-beside r (inr l) =
-    record { simplex = λ e. omega (arith, l, e); search = λ e. omega (arith, l, e); gradient = rw (ne_eqb r.job bfgs_mark (λ e. omega (arith, l, e))) (ne_eqb r.job lbfgs_mark (λ e. omega (arith, l, e))) }
 
 -- neither a simplex fit nor differences ask for a gradient
 pub due_simplex : (r : Record) → r.job ≡ simplex_mark → gradient_due_of r ≡ false

@@ -9,7 +9,7 @@ ghost use Rattle.optim.specs.Answer.{answer_of};
 
 pub use optim_record::{Answered, Record, blank, valid};
 pub use optim_start::{bfgs, differences, lbfgs, search, simplex};
-use protocol::{BFGS, LBFGS, SEARCH, SIMPLEX};
+use protocol::{SEARCH, SIMPLEX};
 
 // An answer to the open question: its number, its kind's letter, and its words, one by one, as C tells them. A letter and no `Kind`: who
 // answers may tell any byte, and one that is neither V nor G is met with refusal 17. A refused or repeated
@@ -37,7 +37,7 @@ pub fn answer(r: Record, number: u64, kind: u8, words: &[f64]) -> Answered
                 let next = optim_rules::search_told(q, words);
                 q.descent = next;
             }
-            BFGS | LBFGS => {
+            job if optim_record::gradient_job(job) => {
                 let told = optim_rules::descent_told(q, words);
                 if told.asks() {
                     q.descent = told;
@@ -58,5 +58,5 @@ pub fn answer(r: Record, number: u64, kind: u8, words: &[f64]) -> Answered
         q.accepted = last;
         q.counts = counts;
     }
-    optim_reply::answered(optim_reply::standing(q), q)
+    optim_reply::answered(optim_reply::standing(&q), q)
 }

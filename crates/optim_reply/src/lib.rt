@@ -285,9 +285,9 @@ pub fn standing_differences(accepted: u64, n: usize, diff: Differences) -> Spoke
 
 // The question or the outcome that stands.
 #[tactic(auto, unfolding(crate::specs::Spoken::spoken_of, optim_record::specs::Record::gradient_job_of))]
-pub fn standing(r: Record) -> Spoken
-    requires { Stands r }
-    ensures { result ≡ spoken_of r }
+pub fn standing(r: &Record) -> Spoken
+    requires { Stands r.now }
+    ensures { result ≡ spoken_of r.now }
 {
     match r.job {
         SIMPLEX => standing_simplex(
@@ -300,11 +300,11 @@ pub fn standing(r: Record) -> Spoken
         ),
         SEARCH => standing_search(
             r.accepted,
-            search_fixed(r),
+            search_fixed(*r),
             r.descent.line,
             r.descent.search,
         ),
-        BFGS | LBFGS => standing_descent(r.accepted, r.counts, gradient_fixed(r), &r.descent),
+        BFGS | LBFGS => standing_descent(r.accepted, r.counts, gradient_fixed(*r), &r.descent),
         _ => standing_differences(r.accepted, r.n, r.diff),
     }
 }

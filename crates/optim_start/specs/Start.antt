@@ -13,10 +13,10 @@ use Rattle.optim_record.specs.Record.{blank_of}
 use Rattle.optim_reply.specs.Standing.{refused_of, standing_of}
 use Rattle.optim_first_record.specs.Starts.{begun_record_of, simplex_refusal_of, simplex_record_of, search_refusal_of, search_record_of, gradient_refusal_of, gradient_record_of}
 
--- what a start says: what stands in its first record, or the refusal that it met
-abbrev pub started_of : OkOrErr Record Refusal → Reply × Record
-started_of (Ok r) = standing_of r
-started_of (Err why) = refused_of blank_of why.number why.detail
+-- what a start says, whose first record is `first` of what it is given once that is tested: what stands in it, or the refusal that was met
+abbrev pub started_of : {A : Type 0} → (A → Record) → OkOrErr A Refusal → Reply × Record
+started_of first (Ok x) = standing_of (first x)
+started_of first (Err why) = refused_of blank_of why.number why.detail
 
 -- differences meet 2 alone: "A lent list .. is above 16"
 unfoldable pub differences_of : List Float → Reply × Record

@@ -4,7 +4,6 @@ use Prim.Native.Nat.{ℕ}
 use mathlib.Core.Path.{◌≡◌, refl, sym, ap, subst, ◌∙◌}
 use mathlib.Core.Bool.{Bool, true, false}
 use mathlib.Core.List.{List}
-use mathlib.Core.Logic.{inl, inr}
 use native.Mathlib.Omega.{arith}
 use lib.Dec.{eqb}
 use lib.ListN.{length}
@@ -14,7 +13,7 @@ use Rattle.quasinewton_model.specs.declared.Model.{Model}
 use Rattle.quasinewton_model.specs.Step.{FewPairs}
 use Rattle.quasinewton.proofs.Range.{after_few}
 use Rattle.optim_record.specs.declared.Record.{Record}
-use Rattle.optim_record.specs.Record.{gradient_fixed_of, Other, Ranges, Open, Stands}
+use Rattle.optim_record.specs.Record.{gradient_fixed_of, gradient_job_of, Other, Ranges, Open, Stands}
 use Rattle.optim_reply.proofs.Says.{says, says_also}
 use Rattle.optim_rules.specs.Rules.{meets_of, accepts_of, accepted_of}
 use Rattle.optim_rules.specs.Moves.{Worded}
@@ -24,9 +23,9 @@ use Rattle.optim_reply.specs.Spoken.{reply_with}
 use Rattle.optim.specs.Answer.{answer_of}
 use Rattle.optim.specs.Parts.{replied_of}
 use Rattle.optim_reply.specs.Standing.{refused_of, standing_of}
-use Rattle.optim.proofs.Advance.{with_parts, model_of, moved_of, model_stored, model_left, descent_on, simplex_moved, search_moved, asking_moved, descent_moved, differences_moved, between, beside, due_simplex, due_other, accepted_ranges, accepted_open, accepted_worded, kept_of, kept_counted, kept_left, kept_stands, replies}
+use Rattle.optim.proofs.Advance.{with_parts, model_of, moved_of, model_stored, model_left, descent_on, simplex_moved, search_moved, asking_moved, descent_moved, differences_moved, due_simplex, due_other, accepted_ranges, accepted_open, accepted_worded, kept_of, kept_counted, kept_left, kept_stands, replies}
 use Rattle.optim.proofs.answer.Goals as goal
-use Rattle.optim.proofs.answer.Goals.{Joined-accepted, In_default, then-accepted, else-accepted, in-1, in-4, in-2+then-asks, in-2+else-asks, in_default+in_default, in_default-via-then-q-lt1, in_default-via-else-q-lt1+else-q-lt4, then-stores, else-stores}
+use Rattle.optim.proofs.answer.Goals.{Joined-accepted, In_default, then-accepted, else-accepted, in-1, in-4, in_default+then-asks, in_default+else-asks, in_default-2, then-stores, else-stores}
 
 -- an answer that meets no refusal, by the call that decides whether it is accepted
 decides : (r : Record) (number kind : ℕ) (words : List Float) (b v : Bool) → Ok b ≡ accepted_of r number kind (length words) → b ≡ v
@@ -76,6 +75,10 @@ module _ (r : Record) (number kind : ℕ) (words : List Float) (b : Bool) (e : O
   worded : Worded r words
   worded = accepted_worded r number kind words took
 
+-- an answer of none of the other jobs is one of differences
+differs : (c : In_default) → gradient_job_of c.args.r.job ≡ false → Other c.args.r
+differs c none = let other = c.in_default in record { simplex = λ e. grind arith; search = λ e. grind arith; gradient = none }
+
 -- the record that is kept, where the branches meet
 kept_is : (c : Joined-accepted) → c.if-accepted.q ≡ kept_of c.args.r c.args.number c.args.kind c.args.words.now
 kept_is c =
@@ -86,19 +89,17 @@ kept_is c =
           let parts_are : v.match-q.q ≡ moved_of r words = elim v.match-q.branch [
             | in-1 w ↦ w.q-is ∙ simplex_moved r words _ w.in-1.is w.simplex_told-next.ensures
             | in-4 w ↦ w.q-is ∙ search_moved r words _ w.in-4.is w.search_told-next.ensures
-            | in-2+then-asks w ↦ w.q-is ∙ asking_moved r words (let other = w.in-2 in between r.job (grind arith) (grind arith)) _ w.descent_told-told.ensures (sym w.asks.ensures ∙ w.if-asks.true)
-            | in-2+else-asks w ↦
+            | in_default+then-asks w ↦ w.q-is ∙ asking_moved r words (sym w.gradient_job.ensures ∙ w.if-gradient_job.true) _ w.descent_told-told.ensures (sym w.asks.ensures ∙ w.if-asks.true)
+            | in_default+else-asks w ↦
                 let model : w.if-stores.q ≡ with_parts r r.diff r.simplex r.descent (model_of r words) = elim w.if-stores.branch [
                   | then-stores u ↦ u.q-is ∙ ap (λ (m : Model). with_parts r r.diff r.simplex r.descent m) (model_stored r words _ _ w.gradient_fixed-fixed.ensures w.descent_told-told.ensures _ _ w.stores.ensures u.if-stores.true u.updated-q.ensures)
                   | else-stores u ↦ u.q-is ∙ ap (λ (m : Model). with_parts r r.diff r.simplex r.descent m) (model_left r words _ _ w.gradient_fixed-fixed.ensures w.descent_told-told.ensures _ w.stores.ensures u.if-stores.false)
                 ] in
-                w.q-is ∙ descent_moved r words (let other = w.in-2 in between r.job (grind arith) (grind arith)) w.if-stores.q _ model
+                w.q-is ∙ descent_moved r words (sym w.gradient_job.ensures ∙ w.if-gradient_job.true) w.if-stores.q _ model
                 (descent_on r words _ _ w.gradient_fixed-fixed.ensures w.descent_told-told.ensures w.if-stores.q.model _ _ (ap (λ (p : Record). p.model) model) v.counted-counts.ensures w.settled-next.ensures)
-            | in_default+in_default w ↦
-                let o : Other r = elim w.in_default.branch [
-                  | in_default-via-then-q-lt1 u ↦ let other = u in beside r (inl (grind arith))
-                  | in_default-via-else-q-lt1+else-q-lt4 u ↦ let other = u in beside r (inr (grind arith))
-                ] in
+            | in_default-2 w ↦
+                let other = w.in_default in
+                let o : Other r = record { simplex = λ e. grind arith; search = λ e. grind arith; gradient = sym w.gradient_job.ensures ∙ w.if-gradient_job.false } in
                 w.q-is ∙ differences_moved r words o _ w.told-next.ensures
           ] in
           v.q-is ∙ kept_counted r c.args.number c.args.kind words v.match-q.q _ (took c.args.r c.args.number c.args.kind c.args.words.now _ c.in-Ok.ensures v.if-accepted.true) parts_are v.counted-counts.ensures
@@ -125,7 +126,7 @@ stores-requires c = rw c.gradient_fixed-fixed.ensures (in_range c.args.r c.args.
 pub updated-q-requires : goal.updated-q-requires
 updated-q-requires c =
     let h = in_range c.args.r c.args.number c.args.kind c.args.words.now _ c.in-Ok.ensures c.if-accepted.true in
-    record { n_bound = rw c.gradient_fixed-fixed.ensures h.few; model_in_range = h.model (let other = c.in-2 in between c.args.r.job (grind arith) (grind arith)) }
+    record { n_bound = rw c.gradient_fixed-fixed.ensures h.few; model_in_range = h.model (sym c.gradient_job.ensures ∙ c.if-gradient_job.true) }
 
 pub settled-next-requires : goal.settled-next-requires
 settled-next-requires c =
@@ -136,18 +137,11 @@ settled-next-requires c =
       | else-stores u ↦ u.q-is ∙ ap (λ (m : Model). with_parts r r.diff r.simplex r.descent m) (model_left r words _ _ c.gradient_fixed-fixed.ensures c.descent_told-told.ensures _ c.stores.ensures u.if-stores.false)
     ] in
     let h = in_range c.args.r c.args.number c.args.kind c.args.words.now _ c.in-Ok.ensures c.if-accepted.true in
-    record { n_bound = rw c.gradient_fixed-fixed.ensures h.few; few_pairs = subst FewPairs (sym (ap (λ (p : Record). p.model) model_is)) (after_few (gradient_fixed_of c.args.r) _ _ (h.model (let other = c.in-2 in between c.args.r.job (grind arith) (grind arith)))) }
-
--- an answer of none of the other jobs is one of differences
-differs : (c : In_default) → Other c.args.r
-differs c = elim c.in_default.branch [
-  | in_default-via-then-q-lt1 u ↦ let other = u in beside c.args.r (inl (grind arith))
-  | in_default-via-else-q-lt1+else-q-lt4 u ↦ let other = u in beside c.args.r (inr (grind arith))
-]
+    record { n_bound = rw c.gradient_fixed-fixed.ensures h.few; few_pairs = subst FewPairs (sym (ap (λ (p : Record). p.model) model_is)) (after_few (gradient_fixed_of c.args.r) _ _ (h.model (sym c.gradient_job.ensures ∙ c.if-gradient_job.true))) }
 
 pub bounds-words-0 : goal.bounds-words-0
 bounds-words-0 c =
-    let o = differs (goal.at.bounds-words-0 c).In_default in
+    let o = differs (goal.at.bounds-words-0 c).In_default (sym c.gradient_job.ensures ∙ c.if-gradient_job.false) in
     let w = worded c.args.r c.args.number c.args.kind c.args.words.now _ c.in-Ok.ensures c.if-accepted.true in
     omega (arith, w.1 (due_other c.args.r (ne_eqb _ _ o.search) o.gradient))
 
@@ -155,7 +149,7 @@ pub told-next-requires : goal.told-next-requires
 told-next-requires c =
     let h = in_range c.args.r c.args.number c.args.kind c.args.words.now _ c.in-Ok.ensures c.if-accepted.true in
     let o = is_open c.args.r c.args.number c.args.kind c.args.words.now _ c.in-Ok.ensures c.if-accepted.true in
-    omega (arith, o.next (differs (goal.at.told-next-requires c).In_default), h.few)
+    omega (arith, o.next (differs (goal.at.told-next-requires c).In_default (sym c.gradient_job.ensures ∙ c.if-gradient_job.false)), h.few)
 
 pub overflow_add-last : goal.overflow_add-last
 overflow_add-last c = omega (arith, (in_range c.args.r c.args.number c.args.kind c.args.words.now _ c.in-Ok.ensures c.if-accepted.true).numbers)
@@ -163,7 +157,7 @@ overflow_add-last c = omega (arith, (in_range c.args.r c.args.number c.args.kind
 pub standing-requires : goal.standing-requires
 standing-requires c =
     let a = c.args in
-    subst Stands (sym (kept_is c)) (kept_stands a.r a.number a.kind a.words.now (decides a.r a.number a.kind a.words.now _ _ c.in-Ok.ensures refl).0)
+    subst Stands (sym (kept_is (goal.at.standing-requires c).Joined-accepted)) (kept_stands a.r a.number a.kind a.words.now (decides a.r a.number a.kind a.words.now _ _ c.in-Ok.ensures refl).0)
 
 pub returns : goal.returns
 returns c =

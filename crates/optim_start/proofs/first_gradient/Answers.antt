@@ -1,12 +1,9 @@
 -- `optim_start::first_gradient` meets its contract: the refusal that it hands back is the one that the start meets. Assumes nothing.
-use mathlib.Core.Path.{◌≡◌, sym, subst}
 use lib.ListN.{length}
 use Rattle.std.proofs.lemmas.Result.{err_from_is_err_and}
 use Rattle.protocol.proofs.Refusals.{passed, failed, none}
-use Rattle.optim_record.specs.Record.{Stands}
 use Rattle.optim_first_record.proofs.Limits.{gradient_limits}
 use Rattle.optim_start.specs.Start.{gradient_of}
-use Rattle.optim_start.proofs.Standing.{gradient_stands}
 use Rattle.optim_start.proofs.first_gradient.Goals as goal
 
 pub returns-in_err-gradient_refusal-clause-begun : goal.returns-in_err-gradient_refusal-clause-begun
@@ -27,13 +24,10 @@ unfolding gradient_of
 returns-then-not-all_finite-clause-begun c =
     rw (c.new.ensures, passed _ c.in_ok-gradient_refusal.ensures, ← c.from_slice-point.ensures, ← c.all_finite.ensures, c.if-not-all_finite.true)
 
-pub gradient_record-requires : goal.gradient_record-requires
-gradient_record-requires c = gradient_limits (length c.args.x.now) c.args.o c.args.a c.args.limited (none _ c.in_ok-gradient_refusal.ensures)
-
 pub returns-clause-begun : goal.returns-clause-begun
 unfolding gradient_of
 returns-clause-begun c =
-    rw (passed _ c.in_ok-gradient_refusal.ensures, ← c.from_slice-point.ensures, ← c.all_finite.ensures, c.if-not-all_finite.false, c.gradient_record.ensures)
+    rw (passed _ c.in_ok-gradient_refusal.ensures, ← c.from_slice-point.ensures, ← c.all_finite.ensures, c.if-not-all_finite.false)
 
-pub returns-clause-stands : goal.returns-clause-stands
-returns-clause-stands c = subst Stands (sym c.gradient_record.ensures) (gradient_stands _ _ _ _ _ (gradient_limits (length c.args.x.now) c.args.o c.args.a c.args.limited (none _ c.in_ok-gradient_refusal.ensures)))
+pub returns-clause-within : goal.returns-clause-within
+returns-clause-within c = gradient_limits (length c.args.x.now) c.args.o c.args.a c.args.limited (none _ c.in_ok-gradient_refusal.ensures)

@@ -1,13 +1,11 @@
 -- `optim_start::first_search` meets its contract: the refusal that it hands back is the one that the start meets. Assumes nothing.
 use native.Mathlib.Nat.{le_of_eq}
-use mathlib.Core.Path.{◌≡◌, sym, subst}
+use mathlib.Core.Path.{sym}
 use lib.ListN.{length}
 use Rattle.std.proofs.lemmas.Result.{err_from_is_err_and}
 use Rattle.protocol.proofs.Refusals.{passed, failed, none}
-use Rattle.optim_record.specs.Record.{Stands}
 use Rattle.optim_first_record.proofs.Limits.{search_limits}
 use Rattle.optim_start.specs.Start.{search_of}
-use Rattle.optim_start.proofs.Standing.{search_stands}
 use Rattle.optim_start.proofs.first_search.Goals as goal
 
 pub returns-in_err-search_refusal-clause-begun : goal.returns-in_err-search_refusal-clause-begun
@@ -48,7 +46,7 @@ returns-in_err-line_refusal-clause-begun c =
 pub returns-clause-begun : goal.returns-clause-begun
 unfolding search_of
 returns-clause-begun c =
-    rw (passed _ c.in_ok-search_refusal.ensures, ← c.from_slice-from.ensures, ← c.from_slice-along.ensures, ← c.from_slice-slopes.ensures, ← c.line_from-line.ensures, passed _ c.in_ok-line_refusal.ensures, c.search_record.ensures)
+    rw (passed _ c.in_ok-search_refusal.ensures, ← c.from_slice-from.ensures, ← c.from_slice-along.ensures, ← c.from_slice-slopes.ensures, ← c.line_from-line.ensures, passed _ c.in_ok-line_refusal.ensures)
 
-pub returns-clause-stands : goal.returns-clause-stands
-returns-clause-stands c = subst Stands (sym c.search_record.ensures) (search_stands _ _ _ _ _ (search_limits (length c.args.x.now) (length c.args.d.now) (length c.args.g.now) c.args.o (none _ c.in_ok-search_refusal.ensures)).0)
+pub returns-clause-within : goal.returns-clause-within
+returns-clause-within c = (search_limits (length c.args.x.now) (length c.args.d.now) (length c.args.g.now) c.args.o (none _ c.in_ok-search_refusal.ensures)).0

@@ -1,12 +1,9 @@
 -- `optim_start::first_simplex` meets its contract: the refusal that it hands back is the one that the start meets. Assumes nothing.
-use mathlib.Core.Path.{◌≡◌, sym, subst}
 use lib.ListN.{length}
 use Rattle.std.proofs.lemmas.Result.{err_from_is_err_and}
 use Rattle.protocol.proofs.Refusals.{passed, failed, none}
-use Rattle.optim_record.specs.Record.{Stands}
 use Rattle.optim_first_record.proofs.Limits.{simplex_limits}
 use Rattle.optim_start.specs.Start.{simplex_of}
-use Rattle.optim_start.proofs.Standing.{simplex_stands}
 use Rattle.optim_start.proofs.first_simplex.Goals as goal
 
 pub returns-in_err-simplex_refusal-clause-begun : goal.returns-in_err-simplex_refusal-clause-begun
@@ -27,16 +24,10 @@ unfolding simplex_of
 returns-then-not-all_finite-clause-begun c =
     rw (c.new.ensures, passed _ c.in_ok-simplex_refusal.ensures, ← c.from_slice-point.ensures, ← c.all_finite.ensures, c.if-not-all_finite.true)
 
-pub simplex_record-requires-clause-n_bound : goal.simplex_record-requires-clause-n_bound
-simplex_record-requires-clause-n_bound c = (simplex_limits (length c.args.x.now) c.args.o c.args.a (none _ c.in_ok-simplex_refusal.ensures)).0
-
-pub simplex_record-requires-clause-restarts_bound : goal.simplex_record-requires-clause-restarts_bound
-simplex_record-requires-clause-restarts_bound c = (simplex_limits (length c.args.x.now) c.args.o c.args.a (none _ c.in_ok-simplex_refusal.ensures)).1
-
 pub returns-clause-begun : goal.returns-clause-begun
 unfolding simplex_of
 returns-clause-begun c =
-    rw (passed _ c.in_ok-simplex_refusal.ensures, ← c.from_slice-point.ensures, ← c.all_finite.ensures, c.if-not-all_finite.false, c.simplex_record.ensures)
+    rw (passed _ c.in_ok-simplex_refusal.ensures, ← c.from_slice-point.ensures, ← c.all_finite.ensures, c.if-not-all_finite.false)
 
-pub returns-clause-stands : goal.returns-clause-stands
-returns-clause-stands c = subst Stands (sym c.simplex_record.ensures) (simplex_stands _ _ _ _ (simplex_limits (length c.args.x.now) c.args.o c.args.a (none _ c.in_ok-simplex_refusal.ensures)).0)
+pub returns-clause-within : goal.returns-clause-within
+returns-clause-within c = simplex_limits (length c.args.x.now) c.args.o c.args.a (none _ c.in_ok-simplex_refusal.ensures)
