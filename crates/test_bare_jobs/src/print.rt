@@ -1,5 +1,5 @@
 // What is printed: questions, refusals and bad lines as the fit program has them, and the outcomes of
-// searches and differences, which it has not. A line is put into a buffer, and then written.
+// searches and differences, which it has not: these are written word by word, and nothing behind a word that is lost.
 use lines_buffer::Text;
 use protocol::{Found, Kind};
 use std::io::Stdout;
@@ -30,6 +30,37 @@ pub fn ask(output: Stdout, number: u64, kind: Kind, x: [f64; 16], n: usize) -> R
     printed(output, |out| lines_print::put_ask(out, number, kind, x, n))
 }
 
+// A value's bits with a space before them.
+fn value(output: Stdout, v: f64) -> Result<(), Stop> {
+    let mut t = Text::<17>::new();
+    t.push_value(v);
+    line(output, t.as_bytes())
+}
+
+// The first n values.
+fn values(output: Stdout, x: &[f64; 16], n: usize) -> Result<(), Stop> {
+    for v in &x[..n.min(16)] {
+        value(output, *v)?;
+    }
+    Ok(())
+}
+
+// A space, then the number.
+fn count(output: Stdout, n: u64) -> Result<(), Stop> {
+    line(output, b" ")?;
+    let mut t = Text::<20>::new();
+    t.push_decimal(n);
+    line(output, t.as_bytes())
+}
+
+fn success(output: Stdout, found: bool) -> Result<(), Stop> {
+    if found {
+        line(output, b"searched yes")
+    } else {
+        line(output, b"searched no")
+    }
+}
+
 // `searched`, success, step, f, the count of trials, the point, the gradient.
 pub fn searched(
     output: Stdout,
@@ -38,27 +69,18 @@ pub fn searched(
     g: [f64; 16],
     n: usize,
 ) -> Result<(), Stop> {
-    let mut t = Text::<1024>::new();
-    t.push_bytes(b"searched ");
-    if found.success {
-        t.push_bytes(b"yes");
-    } else {
-        t.push_bytes(b"no");
-    }
-    t.push_value(found.step);
-    t.push_value(found.f);
-    t.push_count(found.trials);
-    t.push_values(&x[..n.min(16)]);
-    t.push_values(&g[..n.min(16)]);
-    t.push(b'\n');
-    line(output, t.as_bytes())
+    success(output, found.success)?;
+    value(output, found.step)?;
+    value(output, found.f)?;
+    count(output, found.trials)?;
+    values(output, &x, n)?;
+    values(output, &g, n)?;
+    line(output, b"\n")
 }
 
 // `differenced`, the gradient.
 pub fn differenced(output: Stdout, g: [f64; 16], n: usize) -> Result<(), Stop> {
-    let mut t = Text::<512>::new();
-    t.push_bytes(b"differenced");
-    t.push_values(&g[..n.min(16)]);
-    t.push(b'\n');
-    line(output, t.as_bytes())
+    line(output, b"differenced")?;
+    values(output, &g, n)?;
+    line(output, b"\n")
 }

@@ -116,7 +116,7 @@ pub fn run<R: Read, S: Copy, F: Fn(S, &[u8]) -> Result<S, Stop>>(
     requires { F.IsAlwaysCallable fed }
     ensures { IfOk result (λ s. IfSome (R.remaining input.old) (λ bs. InParts (F.post fed) begun bs s)) }
 {
-    let mut buf = [0u8; 65536];
+    let mut buf = [0u8; 4096];
     let mut state = begun;
     for _ in 0..u64::MAX {
         match input.read(&mut buf) {
