@@ -1,4 +1,4 @@
--- A form that is no line's comes of a number alone (`form_of`): where the forms that a function of the fit program is given are of the six, so is
+-- No function but `From<u64>` makes a form that is no line's: where the forms that a function of the fit program is given are of the six, so is
 -- what it hands on. Definitions and statements only.
 use Rattle.std.specs.Prelude.{ℕ, ◌≡◌, List, []}
 use Rattle.lines_reader.specs.declared.Form.{Form}
